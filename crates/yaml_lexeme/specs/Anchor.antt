@@ -1,0 +1,15 @@
+-- Anchors and aliases.
+use mathlib.Core.Bool.{Bool, not}
+use lib.ListN.{drop}
+use Rattle.yaml_text.specs.Pick.{pick}
+use Rattle.yaml_text.specs.Class.{isAnchor, none-left}
+use Rattle.yaml_text.specs.Mark.{Place, along, word}
+use Rattle.yaml_lexeme.specs.Token.{Alias, Anchor, Lexeme, lexeme}
+use Rattle.yaml_text.specs.Refusal.{Read, _>>=_, got, need}
+
+-- from its indicator; 27: empty
+unfoldable pub scan-anchor : Bool → Place → Read Lexeme
+scan-anchor alias p = do
+  let r = word isAnchor (along (p .mark)) (drop 1 (p .rest))
+  _ ← need (not (none-left (r .text))) 27 (p .mark)
+  got (lexeme (pick alias (Alias (r .text)) (Anchor (r .text))) (p .mark) (r .place .mark) (r .place))

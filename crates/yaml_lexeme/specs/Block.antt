@@ -1,0 +1,203 @@
+-- K7: block scalars (29 to 32).
+use Prim.Native.Nat.{_+_, _-_, max, suc, zero, ℕ}
+use mathlib.Core.Bool.{Bool, _&&_, _||_, false, not, true}
+use mathlib.Core.List.{List, [], _++_, _∷_}
+use lib.Dec.{eqb, leb, ltb}
+use lib.ListN.{replicate}
+use Rattle.yaml_text.specs.declared.Mark.{Mark}
+use Rattle.yaml_lexeme.specs.declared.Style.{Style}
+use Rattle.yaml_lexeme.specs.declared.Style.the-variants.{Folded, Literal}
+use Rattle.yaml_text.specs.Pick.{pick}
+use Rattle.yaml_text.specs.Char.{'+', '-', '0', line-feed, space, tab}
+use Rattle.yaml_text.specs.Class.{isBlank, isBom, isBreak, isBreakz, isDigit, none-left, peek}
+use Rattle.yaml_text.specs.Mark.{Place, Run, along, before-run, ends-line, halfBreak, here, isMarker, look, over, skip-break, skip-by}
+use Rattle.yaml_lexeme.specs.Token.{Lexeme, Scalar, lexeme}
+use Rattle.yaml_text.specs.Refusal.{Read, _>>=_, got, need, refused}
+use Rattle.yaml_lexeme.specs.Gap.{blanks-and-comment}
+
+pub data Chomping : Type 0 where
+  strip clip keep : Chomping
+
+pub record Header : Type 0 where
+  pub chomping : Chomping
+  -- the indentation indicator; 0: none
+  pub increment : ℕ
+  pub place : Place
+
+-- 29: the indicator 0
+unfoldable pub increment-of : Mark → ℕ → Read ℕ
+increment-of start c = pick (isDigit c) (pick (eqb c '0') (refused 29 start) (got (c - '0'))) (got 0)
+
+unfoldable pub isChomp : ℕ → Bool
+isChomp c = eqb c '+' || eqb c '-'
+
+unfoldable pub chomping-of : ℕ → Chomping
+chomping-of c = pick (eqb c '+') keep (pick (eqb c '-') strip clip)
+
+-- one for each indicator that stands there
+abbrev pub one-if : Bool → ℕ
+one-if b = pick b 1 0
+
+-- chomping and indentation indicator, each at most once, in either order
+unfoldable pub indicators : Mark → Place → Read Header
+indicators start p =
+    let c = look p in
+    let d = peek (p .rest) 1 in
+    elim (isChomp c) [
+      | true ↦ do
+        n ← increment-of start d
+        got (record { chomping = chomping-of c; increment = n; place = skip-by (1 + one-if (isDigit d)) p })
+      | false ↦ increment-of start c >>= λ n. elim (isDigit c) [
+        | true ↦ got (record { chomping = chomping-of d; increment = n; place = skip-by (1 + one-if (isChomp d)) p })
+        | false ↦ got (record { chomping = clip; increment = 0; place = p })
+      ]
+    ]
+
+-- the largest column reached by leading spaces up to the first line with other text
+unfoldable pub largest : ℕ → Mark → List ℕ → ℕ
+largest most m [] = max most (m .col)
+largest most m (c ∷ cs) =
+    elim (eqb c space) [
+      | true ↦ largest most (along m) cs
+      | false ↦ elim (isBreak c) [
+        | true ↦ largest (max most (m .col)) (over m c (peek cs 0)) cs
+        | false ↦ max most (m .col)
+      ]
+    ]
+
+-- the content's column: an indicator adds to a non-negative indent only; parent is stored as indent + 1
+unfoldable pub content-column : ℕ → ℕ → Place → ℕ
+content-column parent zero p = max (largest 0 (p .mark) (p .rest)) parent
+content-column parent (suc n) p = (parent - 1) + suc n
+
+pub record Margin : Type 0 where
+  -- how many lines ended
+  pub breaks : ℕ
+  pub place : Place
+
+-- over empty lines, and spaces up to the column
+unfoldable pub margin : ℕ → ℕ → Mark → List ℕ → Margin
+margin column n m [] = record { breaks = n; place = here m [] }
+margin column n m (c ∷ cs) =
+    elim ((eqb c space && ltb (m .col) column) || isBreak c) [
+      | true ↦ margin column (n + ends-line c (peek cs 0)) (over m c (peek cs 0)) cs
+      | false ↦ record { breaks = n; place = here m (c ∷ cs) }
+    ]
+
+-- a line that opens with a BOM (K1), or at column 0 with a document marker, is no content line
+unfoldable pub opens-content : Mark → List ℕ → Bool
+opens-content m cs = not (isBreakz (peek cs 0)) && not (isBom (peek cs 0)) && not (isMarker m cs)
+
+-- what holds for the whole scalar
+pub record Layout : Type 0 where
+  pub literal : Bool
+  pub chomping : Chomping
+  pub column : ℕ
+
+-- where a character of the content stands
+pub data Line : Type 0 where
+  -- before the first content line, n lines after the header's
+  ahead : ℕ → Line
+  -- in a content line; whether it opened with a blank
+  inside : Bool → Line
+  -- behind a content line, which opened with a blank or not, and n more lines
+  behind : Bool → ℕ → Line
+
+-- line feeds, or a space for a single folded one, before a content line that opens with a blank or not
+unfoldable pub separator : Bool → Bool → Line → List ℕ
+separator literal blank (ahead n) = replicate n line-feed
+separator literal blank (inside w) = []
+separator literal blank (behind w n) =
+    pick (literal || w || blank) (replicate (suc n) line-feed) (pick (eqb n 0) (space ∷ []) (replicate n line-feed))
+
+-- n more line ends
+unfoldable pub lines-on : ℕ → Line → Line
+lines-on n (ahead k) = ahead (k + n)
+lines-on n (inside w) = inside w
+lines-on n (behind w k) = behind w (k + n)
+
+pub data ContentTurn : Type 0 where
+  writes : List ℕ → Line → ContentTurn
+  content-stops : ContentTurn
+
+-- between content lines
+unfoldable pub opening-turn : Layout → Line → Mark → ℕ → List ℕ → ContentTurn
+opening-turn b l m c cs =
+    elim ((eqb c space && ltb (m .col) (b .column)) || isBreak c) [
+      | true ↦ writes [] (lines-on (ends-line c (peek cs 0)) l)
+      | false ↦ pick (eqb (m .col) (b .column) && opens-content m (c ∷ cs))
+          (writes (separator (b .literal) (isBlank c) l ++ (c ∷ [])) (inside (isBlank c)))
+          content-stops
+    ]
+
+-- content lines run to the break, BOMs included
+unfoldable pub content-turn : Layout → Line → Mark → ℕ → List ℕ → ContentTurn
+content-turn b (ahead n) m c cs = opening-turn b (ahead n) m c cs
+content-turn b (behind w n) m c cs = opening-turn b (behind w n) m c cs
+content-turn b (inside w) m c cs =
+    pick (isBreak c) (writes [] (pick (halfBreak c (peek cs 0)) (inside w) (behind w 0))) (writes (c ∷ []) (inside w))
+
+-- the line feeds behind the content. last: the text ends in a line that has no break
+unfoldable pub own-break : Line → List ℕ
+own-break (ahead n) = []
+own-break (inside w) = []
+own-break (behind w n) = line-feed ∷ []
+
+unfoldable pub lines-after : Line → List ℕ
+lines-after (ahead n) = replicate n line-feed
+lines-after (inside w) = []
+lines-after (behind w n) = replicate n line-feed
+
+unfoldable pub chomped : Chomping → Bool → Line → List ℕ
+chomped strip last l = []
+chomped clip last l = own-break l ++ pick last (line-feed ∷ []) []
+chomped keep last l = own-break l ++ pick last (line-feed ∷ []) [] ++ lines-after l
+
+abbrev pub content-end : Layout → Line → Place → Run
+content-end b l p =
+    record { text = chomped (b .chomping) (none-left (p .rest) && leb (max (b .column) 1) (p .mark .col)) l; place = p }
+
+abbrev pub after-content : ContentTurn → (Line → Run) → Run → Run
+after-content (writes t l) go end = before-run t (go l)
+after-content content-stops go end = end
+
+unfoldable pub content : Layout → Line → Mark → List ℕ → Run
+content b l m [] = content-end b l (here m [])
+content b l m (c ∷ cs) =
+    after-content (content-turn b l m c cs)
+    (λ l'. content b l' (over m c (peek cs 0)) cs)
+    (content-end b l (here m (c ∷ cs)))
+
+-- the text where the whole text ends before any content
+unfoldable pub no-content : Chomping → ℕ → Bool → List ℕ
+no-content strip n part = []
+no-content clip n part = []
+no-content keep n part = pick (eqb n 0 && part) (line-feed ∷ []) (replicate n line-feed)
+
+-- 32: the first content column is above the parent's but below its own indent
+unfoldable pub block-content : Layout → Style → ℕ → Mark → Margin → Read Lexeme
+block-content b style parent start g =
+    let p = g .place in
+    elim (none-left (p .rest)) [
+      | true ↦
+          let part = ltb (start .line) (p .mark .line) && ltb 0 (p .mark .col) in
+          got (lexeme (Scalar style (no-content (b .chomping) (g .breaks) part)) start (p .mark) p)
+      | false ↦ elim (opens-content (p .mark) (p .rest) && ltb (p .mark .col) (b .column) && leb parent (p .mark .col)) [
+        | true ↦ refused 32 (p .mark)
+        | false ↦
+            let r = content b (ahead (g .breaks)) (p .mark) (p .rest) in
+            got (lexeme (Scalar style (r .text)) (p .mark) (r .place .mark) (r .place))
+      ]
+    ]
+
+-- from its indicator. 30: the rest of the header; 31: a tab right after its break. parent: the block's own indent + 1
+unfoldable pub scan-block-scalar : Bool → ℕ → Place → Read Lexeme
+scan-block-scalar literal parent p = do
+  h ← indicators (p .mark) (skip-by 1 p)
+  e ← blanks-and-comment (h .place)
+  _ ← need (isBreakz (look e)) 30 (p .mark)
+  let q = skip-break e
+  _ ← need (not (eqb (look q) tab)) 31 (p .mark)
+  let column = content-column parent (h .increment) q
+  let b : Layout = record { literal = literal; chomping = h .chomping; column = column }
+  block-content b (pick literal Literal Folded) parent (p .mark) (margin column 0 (q .mark) (q .rest))

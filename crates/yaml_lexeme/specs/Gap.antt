@@ -1,0 +1,121 @@
+-- K1: gaps between tokens; and the blanks and comment that are read after a token.
+use Prim.Native.Nat.{ℕ}
+use mathlib.Core.Bool.{Bool, _&&_, _||_, false, not, true}
+use mathlib.Core.List.{List, [], _∷_}
+use lib.Dec.{eqb}
+use Rattle.yaml_text.specs.declared.Mark.{Mark}
+use Rattle.yaml_text.specs.Pick.{pick}
+use Rattle.yaml_text.specs.Char.{'#', tab}
+use Rattle.yaml_text.specs.Class.{isBlank, isBreak, peek}
+use Rattle.yaml_text.specs.Mark.{Place, along, here, look, over}
+use Rattle.yaml_text.specs.Refusal.{Read, got, refused}
+
+-- what stands before a character of a gap
+pub data Before : Type 0 where
+  -- this line's blanks from column 0, no tab among them
+  leading : Before
+  -- the same with a tab: the first stands there
+  tabbed : Mark → Before
+  -- a blank, behind text of this line
+  spaced : Before
+  -- text of this line
+  after-text : Before
+  -- a comment
+  in-comment : Before
+
+-- a gap's turn over one character
+pub data GapTurn : Type 0 where
+  -- pass over it; whether a simple key is allowed from here on
+  pass : Before → Bool → GapTurn
+  -- it begins a token
+  stop : GapTurn
+  wrong : ℕ → Mark → GapTurn
+
+unfoldable pub on-blank : Bool → Mark → ℕ → Before → Before
+on-blank flow m c leading = pick (not flow && eqb c tab) (tabbed m) leading
+on-blank flow m c (tabbed t) = tabbed t
+on-blank flow m c spaced = spaced
+on-blank flow m c after-text = spaced
+on-blank flow m c in-comment = in-comment
+
+-- 44: '#' not at column 0 nor after a blank
+unfoldable pub on-hash : Mark → Before → GapTurn
+on-hash m leading = pass in-comment false
+on-hash m (tabbed t) = pass in-comment false
+on-hash m spaced = pass in-comment false
+on-hash m after-text = wrong 44 m
+on-hash m in-comment = pass in-comment false
+
+-- 45: tab in leading blanks, at the first such tab
+unfoldable pub on-other : Before → GapTurn
+on-other leading = stop
+on-other (tabbed t) = wrong 45 t
+on-other spaced = stop
+on-other after-text = stop
+on-other in-comment = pass in-comment false
+
+-- a break at flow level 0 allows a simple key; comments run to the break
+unfoldable pub gap-turn : Bool → Before → Mark → ℕ → GapTurn
+gap-turn flow b m c =
+    pick (isBreak c) (pass leading (not flow))
+    (pick (isBlank c) (pass (on-blank flow m c b) false)
+    (pick (eqb c '#') (on-hash m b) (on-other b)))
+
+-- only blanks stand between the line's start and here
+unfoldable pub isLeading : Before → Bool
+isLeading leading = true
+isLeading (tabbed t) = true
+isLeading spaced = false
+isLeading after-text = false
+isLeading in-comment = false
+
+pub record Gap : Type 0 where
+  pub place : Place
+  pub allowed : Bool
+  pub leads : Bool
+
+abbrev pub after-gap-turn : GapTurn → (Before → Bool → Read Gap) → Gap → Read Gap
+after-gap-turn (pass b allows) go end = go b allows
+after-gap-turn stop go end = got end
+after-gap-turn (wrong n m) go end = refused n m
+
+-- the gap that begins here
+unfoldable pub skip-gap : Bool → Bool → Before → Mark → List ℕ → Read Gap
+skip-gap flow allowed b m [] = got (record { place = here m []; allowed = allowed; leads = isLeading b })
+skip-gap flow allowed b m (c ∷ cs) =
+    after-gap-turn (gap-turn flow b m c)
+    (λ b' allows. skip-gap flow (allowed || allows) b' (over m c (peek cs 0)) cs)
+    (record { place = here m (c ∷ cs); allowed = allowed; leads = isLeading b })
+
+-- past the blanks here
+unfoldable pub blanks : Mark → List ℕ → Place
+blanks m [] = here m []
+blanks m (c ∷ cs) =
+    elim (isBlank c) [
+      | true ↦ blanks (along m) cs
+      | false ↦ here m (c ∷ cs)
+    ]
+
+-- to the line's end
+unfoldable pub to-break : Mark → List ℕ → Place
+to-break m [] = here m []
+to-break m (c ∷ cs) =
+    elim (isBreak c) [
+      | true ↦ here m (c ∷ cs)
+      | false ↦ to-break (along m) cs
+    ]
+
+-- the comment after blanks; 44 where no blank came before it
+unfoldable pub comment-after : Bool → Place → Read Place
+comment-after blank p =
+    elim (eqb (look p) '#') [
+      | true ↦ elim blank [
+        | true ↦ got (to-break (p .mark) (p .rest))
+        | false ↦ refused 44 (p .mark)
+      ]
+      | false ↦ got p
+    ]
+
+-- the blanks and comment read after a directive, a block header, a quoted scalar, a bracket, ',' and `...`
+unfoldable pub blanks-and-comment : Place → Read Place
+blanks-and-comment p = comment-after (isBlank (look p)) (blanks (p .mark) (p .rest))

@@ -1,0 +1,13 @@
+pub mod Token
+pub mod Gap
+pub mod Plain
+pub mod Escape
+pub mod Quoted
+pub mod Block
+pub mod Tag
+pub mod Anchor
+pub mod Directive
+pub mod Held
+pub mod Fits
+pub mod Turns
+pub mod TokenLaws

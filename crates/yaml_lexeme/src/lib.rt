@@ -1,0 +1,51 @@
+// The types of tokens, which the definition in specs/ and the code above it share. No code.
+use yaml_text::Mark;
+
+// The styles of scalars, in the crate's order.
+pub enum Style {
+    Plain,
+    SingleQuoted,
+    DoubleQuoted,
+    Literal,
+    Folded,
+}
+
+// A text among the decoded bytes.
+pub struct Text {
+    pub at: u32,
+    pub len: u32,
+}
+
+// The kinds of tokens, in the crate's order, with where their texts lie.
+pub enum Kind {
+    StreamStart,
+    StreamEnd,
+    VersionDirective(u32, u32),
+    TagDirective(Text, Text),
+    DocumentStart,
+    DocumentEnd,
+    ByteOrderMark,
+    BlockSequenceStart,
+    BlockMappingStart,
+    BlockEnd,
+    FlowSequenceStart,
+    FlowSequenceEnd,
+    FlowMappingStart,
+    FlowMappingEnd,
+    BlockEntry,
+    FlowEntry,
+    Key,
+    Value,
+    Alias(Text),
+    Anchor(Text),
+    Tag(Text, Text),
+    Scalar(Style, Text),
+    ReservedDirective(Text, Text),
+}
+
+// A token as code holds it.
+pub struct Token {
+    pub kind: Kind,
+    pub start: Mark,
+    pub end: Mark,
+}

@@ -1,0 +1,63 @@
+-- Laws of the run: one step; the characters that are scanned are those of the bytes; the rooms keep their lengths.
+use Prim.Native.Nat.{_-_, _/_, _≤_, suc, zero, ℕ, pred}
+use mathlib.Core.List.{List, [], _∷_}
+use mathlib.Core.Path.{_≡_, refl, ap}
+use native.Mathlib.Omega.{arith}
+use lib.Dec.{ltb}
+use lib.ListN.{length, length-append, length-replicate, replicate}
+use Rattle.yaml_text.specs.declared.Mark.{Mark}
+use Rattle.yaml_text.specs.Class.{peek}
+use Rattle.yaml_text.specs.Mark.{origin, over}
+use Rattle.yaml_lexeme.specs.Token.{Token, texts, records}
+use Rattle.yaml_text.specs.Refusal.{Read}
+use Rattle.yaml_scan.specs.State.{Limits, State}
+use Rattle.yaml_scan.specs.Scan.{Outcome, Verdict, after-step, answer, answer-for, lent, no-verdict, outcome, refusal, run, scanned, settled, spent, step, stopped, Answer, blank-answer, filled}
+use borrow.Author.Tests.{ltb-false}
+use Rattle.yaml_text.specs.declared.Decoded.{Decoded}
+use Rattle.yaml_text.specs.declared.Decoded.the-variants.{Char, End, Ill}
+use Rattle.yaml_text.specs.Utf8.{charsAfter, first, more}
+use Rattle.yaml_text.specs.Test.{by-test}
+use Rattle.yaml_text.specs.All.{All, all-bind, all-need, holds, not-read}
+use Rattle.yaml_lexeme.specs.TokenLaws.{records-length}
+
+pub run-turned : (limits : Limits) (k : ℕ) (s : State) → run limits (suc k) s ≡ after-step (step limits s) (λ s'. run limits k s')
+unfolding run
+run-turned limits k s = refl
+
+-- the rooms keep their lengths, and a record is 12 words
+
+filled-length : (room : ℕ) (l : List ℕ) → length l ≤ room → length (filled room l) ≡ room
+filled-length room l h =
+    let e = length-append l (replicate (room - length l) 0) in
+    let f = length-replicate {A = ℕ} (room - length l) 0 in
+    omega arith
+
+pub record Rooms (a : Answer) (w b : ℕ) : Type 0 where
+  pub words-room : length (a .words) ≡ w
+  pub bytes-room : length (a .bytes) ≡ b
+
+blank-rooms : (v : Verdict) (w b : ℕ) → Rooms (blank-answer v w b) w b
+blank-rooms v w b = record { words-room = length-replicate w 0; bytes-room = length-replicate b 0 }
+
+lent-rooms : (ts : List Token) (w b : ℕ) → Rooms (lent ts w b) w b
+unfolding lent
+lent-rooms ts w b =
+    by-test (ltb (w / 12) (length ts))
+    (λ e. rw (e, lent) (blank-rooms (refusal 4 origin (length ts) (length (texts ts))) w b))
+    (λ e. by-test (ltb b (length (texts ts)))
+    (λ f. rw (e, f, lent) (blank-rooms (refusal 5 origin (length ts) (length (texts ts))) w b))
+    (λ f. rw (e, f, lent)
+    (let i = ltb-false (w / 12) (length ts) e in
+    let j = ltb-false b (length (texts ts)) f in
+    let k = records-length 0 ts in
+    record { words-room = filled-length w (records 0 ts) (omega arith); bytes-room = filled-length b (texts ts) j })))
+
+outcome-rooms : (o : Outcome) (w b : ℕ) → Rooms (answer-for o w b) w b
+unfolding answer-for
+outcome-rooms (scanned es) w b = lent-rooms (settled 0 es) w b
+outcome-rooms (stopped n m) w b = blank-rooms (refusal n m 0 0) w b
+outcome-rooms spent w b = blank-rooms no-verdict w b
+
+pub answer-rooms : (limits : Limits) (bytes : List ℕ) (w b : ℕ) → Rooms (answer limits bytes w b) w b
+unfolding answer
+answer-rooms limits bytes w b = outcome-rooms (outcome limits bytes) w b

@@ -1,0 +1,12 @@
+pub mod Indent
+pub mod Keys
+pub mod State
+pub mod Bracket
+pub mod Value
+pub mod Choice
+pub mod Scan
+pub mod Open
+pub mod Examples
+pub mod Budget
+pub mod Laws
+pub mod Sink

@@ -1,0 +1,143 @@
+-- The step, the run, and the whole answer for lent rooms.
+use Prim.Native.Nat.{_-_, _/_, pred, suc, zero, ℕ}
+use mathlib.Core.Bool.{false, not, true}
+use mathlib.Core.List.{List, [], _++_, _∷_}
+use lib.Dec.{eqb, ltb}
+use lib.ListN.{length, replicate}
+use Rattle.yaml_text.specs.declared.Decoded.{Decoded}
+use Rattle.yaml_text.specs.declared.Decoded.the-variants.{Char, End, Ill}
+use Rattle.yaml_text.specs.declared.Mark.{Mark}
+use Rattle.yaml_text.specs.Pick.{pick}
+use Rattle.yaml_text.specs.Utf8.{first}
+use Rattle.yaml_text.specs.Class.{isZ, peek}
+use Rattle.yaml_text.specs.Mark.{edge-of, here, origin, over}
+use Rattle.yaml_lexeme.specs.Token.{StreamStart, Token, empty-token, records, texts}
+use Rattle.yaml_text.specs.Refusal.{Read, _>>=_, got, need, refused}
+use Rattle.yaml_text.specs.Decode.{decode}
+use Rattle.yaml_lexeme.specs.Gap.{after-text, leading, skip-gap}
+use Rattle.yaml_scan.specs.Indent.{Unrolled, indents-of}
+use Rattle.yaml_scan.specs.Keys.{no-key}
+use Rattle.yaml_scan.specs.State.{Event, Limits, News, State, allow, at-place, block-ends, counting, ends-with, goes-on, in-flow, lapse-key, mark-of, preceded, put, put-before, rest-of, unroll-to, with-indents}
+use Rattle.yaml_scan.specs.Choice.{fetch-next}
+
+-- the gap, then the lapse
+unfoldable pub to-next-token : State → Read State
+to-next-token s = do
+  g ← skip-gap (in-flow s) (s .allowed) (pick (s .leads) leading after-text) (mark-of s) (rest-of s)
+  lapse-key (at-place (g .place) (g .leads) (allow (g .allowed) s))
+
+-- unroll_indent to the column; in flow nothing ends
+unfoldable pub unrolled : State → Unrolled
+unrolled s = elim (in-flow s) [
+  | true ↦ record { ended = 0; indents = s .indents }
+  | false ↦ unroll-to (edge-of (mark-of s)) s
+]
+
+-- K3: after gaps, lapse and unroll_indent to the column, one token
+unfoldable pub step : Limits → State → Read News
+step limits s₀ = do
+  s ← to-next-token s₀
+  let u = unrolled s
+  n ← fetch-next limits (counting (u .ended) (with-indents (u .indents) s))
+  got (preceded (block-ends (u .ended) (mark-of s)) n)
+
+-- what a run comes to
+pub data Outcome : Type 0 where
+  scanned : List Event → Outcome
+  stopped : ℕ → Mark → Outcome
+  -- out of budget
+  spent : Outcome
+
+abbrev pub after-events : List Event → Outcome → Outcome
+after-events es (scanned fs) = scanned (es ++ fs)
+after-events es (stopped n m) = stopped n m
+after-events es spent = spent
+
+abbrev pub after-step : Read News → (State → Outcome) → Outcome
+after-step (got (goes-on es s)) go = after-events es (go s)
+after-step (got (ends-with es)) go = scanned es
+after-step (refused n m) go = stopped n m
+
+-- steps, as many as the budget has
+unfoldable pub run : Limits → ℕ → State → Outcome
+run limits zero s = spent
+run limits (suc k) s = after-step (step limits s) (λ s'. run limits k s')
+
+-- StreamStart was given
+abbrev pub begin : List ℕ → State
+begin cs =
+    record { place = here origin cs; leads = true; allowed = true; indents = indents-of 0 []; keys = no-key ∷ []; levels = []; adjacent = 0; count = 1 }
+
+-- each step but the last takes a character
+unfoldable pub scan : Limits → List ℕ → Outcome
+scan limits cs = after-events (put (empty-token StreamStart origin) ∷ []) (run limits (suc (length cs)) (begin cs))
+
+-- the tokens that go in before token n, after these events: as noted so far, until an event says it
+unfoldable pub noted : ℕ → List Token → List Event → List Token
+noted n ts [] = ts
+noted n ts (put t ∷ es) = noted n ts es
+noted n ts (put-before k now ∷ es) = noted n (pick (eqb n k) now ts) es
+
+-- the tokens of a list of events, n tokens having come before
+unfoldable pub settled : ℕ → List Event → List Token
+settled n [] = []
+settled n (put t ∷ es) = noted n [] es ++ (t ∷ settled (suc n) es)
+settled n (put-before k ts ∷ es) = settled n es
+
+-- the answer, with what both rooms hold behind it
+pub data Verdict : Type 0 where
+  -- T and D
+  accepted : ℕ → ℕ → Verdict
+  -- number, mark, T and D
+  refusal : ℕ → Mark → ℕ → ℕ → Verdict
+  -- out of budget
+  no-verdict : Verdict
+
+pub record Answer : Type 0 where
+  pub verdict : Verdict
+  pub words : List ℕ
+  pub bytes : List ℕ
+
+-- both rooms zero
+abbrev pub blank-answer : Verdict → ℕ → ℕ → Answer
+blank-answer v wordsRoom bytesRoom = record { verdict = v; words = replicate wordsRoom 0; bytes = replicate bytesRoom 0 }
+
+-- as it stands, zeros behind it
+abbrev pub filled : ℕ → List ℕ → List ℕ
+filled room l = l ++ replicate (room - length l) 0
+
+-- 4: T exceeds the whole records that fit; 5: D exceeds the bytes
+unfoldable pub lent : List Token → ℕ → ℕ → Answer
+lent ts wordsRoom bytesRoom =
+    let t = length ts in
+    let d = length (texts ts) in
+    elim (ltb (wordsRoom / 12) t) [
+      | true ↦ blank-answer (refusal 4 origin t d) wordsRoom bytesRoom
+      | false ↦ elim (ltb bytesRoom d) [
+        | true ↦ blank-answer (refusal 5 origin t d) wordsRoom bytesRoom
+        | false ↦ record { verdict = accepted t d; words = filled wordsRoom (records 0 ts); bytes = filled bytesRoom (texts ts) }
+      ]
+    ]
+
+unfoldable pub answer-for : Outcome → ℕ → ℕ → Answer
+answer-for (scanned es) wordsRoom bytesRoom = lent (settled 0 es) wordsRoom bytesRoom
+answer-for (stopped n m) wordsRoom bytesRoom = blank-answer (refusal n m 0 0) wordsRoom bytesRoom
+answer-for spent wordsRoom bytesRoom = blank-answer no-verdict wordsRoom bytesRoom
+
+unfoldable pub outcome : Limits → List ℕ → Outcome
+outcome limits bytes =
+    elim (ltb (limits .bytes) (length bytes)) [
+      | true ↦ stopped 1 origin
+      | false ↦ elim (decode 0 origin bytes) [
+        | got cs ↦ scan limits cs
+        | refused n m ↦ stopped n m
+      ]
+    ]
+
+-- the whole answer. Order: 1; 2 or 3; the first rule broken; 4; 5
+unfoldable pub answer : Limits → List ℕ → ℕ → ℕ → Answer
+answer limits bytes wordsRoom bytesRoom = answer-for (outcome limits bytes) wordsRoom bytesRoom
+
+-- the limits of 01
+abbrev pub standard : Limits
+standard = record { bytes = 1_048_576; levels = 255; entries = 255 }

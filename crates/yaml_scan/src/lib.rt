@@ -1,0 +1,1 @@
+// The definition of the scan: no types, no code.

@@ -1,0 +1,13 @@
+pub mod Pick
+pub mod Char
+pub mod Utf8
+pub mod Class
+pub mod Mark
+pub mod Refusal
+pub mod Decode
+pub mod Test
+pub mod All
+pub mod Utf8Laws
+pub mod ByteLaws
+pub mod MarkLaws
+pub mod DecodeLaws
