@@ -8,7 +8,7 @@ use Rattle.yaml_text.specs.declared.Mark.{Mark}
 use Rattle.yaml_text.specs.Pick.{pick}
 use Rattle.yaml_text.specs.Char.{'!', '%', '&', '*', '-', ':', '>', '?', '[', ']', '`', '|', at-sign, byte-order-mark, close-brace, comma, double-quote, open-brace, single-quote}
 use Rattle.yaml_text.specs.Class.{among, isBlankOrBreakz, isBom, isBreakz, isFlow, isZ, peek}
-use Rattle.yaml_text.specs.Mark.{Place, edge-of, here, isMarker, look, skip-by}
+use Rattle.yaml_text.specs.Mark.{Place, edge-of, here, isMarker, look, over-bom, skip-by}
 use Rattle.yaml_lexeme.specs.Token.{ByteOrderMark, DocumentEnd, DocumentStart, StreamEnd, empty-token}
 use Rattle.yaml_text.specs.Refusal.{Read, _>>=_, got, need, refused}
 use Rattle.yaml_lexeme.specs.Gap.{blanks-and-comment}
@@ -61,10 +61,6 @@ fetch-directive s₀ = do
   s ← leave-blocks s₀
   l ← scan-directive (s .place)
   emit (all-ends s₀ ++ (put (l .token) ∷ [])) (at-place (l .place) true (allow false s))
-
--- a byte order mark token adds 1 to index and nothing to col
-abbrev pub over-bom : Mark → Mark
-over-bom m = record { index = m .index + 1; line = m .line; col = m .col }
 
 unfoldable pub fetch-byte-order-mark : State → Read News
 fetch-byte-order-mark s₀ = do

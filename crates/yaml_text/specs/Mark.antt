@@ -28,6 +28,10 @@ along m = along-by 1 m
 abbrev pub new-line : ℕ → Mark → Mark
 new-line n m = record { index = m .index + n; line = m .line + 1; col = 0 }
 
+-- a byte order mark token adds 1 to index and nothing to col
+abbrev pub over-bom : Mark → Mark
+over-bom m = record { index = m .index + 1; line = m .line; col = m .col }
+
 -- the character c before the character d is the CR of a CR LF, which is one break: its LF ends the line
 unfoldable pub halfBreak : ℕ → ℕ → Bool
 halfBreak c d = eqb c carriage-return && eqb d line-feed

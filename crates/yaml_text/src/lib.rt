@@ -16,3 +16,9 @@ pub struct Mark {
     pub line: u32,
     pub col: u32,
 }
+
+// A refusal: its number in the table of 01, and its mark.
+pub struct Refusal {
+    pub number: u32,
+    pub mark: Mark,
+}
