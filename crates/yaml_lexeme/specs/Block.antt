@@ -5,6 +5,8 @@ use mathlib.Core.List.{List, [], _++_, _∷_}
 use lib.Dec.{eqb, leb, ltb}
 use lib.ListN.{replicate}
 use Rattle.yaml_text.specs.declared.Mark.{Mark}
+use Rattle.yaml_lexeme.specs.declared.Chomping.{Chomping}
+use Rattle.yaml_lexeme.specs.declared.Chomping.the-variants.{Clip, Keep, Strip}
 use Rattle.yaml_lexeme.specs.declared.Style.{Style}
 use Rattle.yaml_lexeme.specs.declared.Style.the-variants.{Folded, Literal}
 use Rattle.yaml_text.specs.Pick.{pick}
@@ -14,9 +16,6 @@ use Rattle.yaml_text.specs.Mark.{Place, Run, along, before-run, ends-line, half
 use Rattle.yaml_lexeme.specs.Token.{Lexeme, Scalar, lexeme}
 use Rattle.yaml_text.specs.Refusal.{Read, _>>=_, got, need, refused}
 use Rattle.yaml_lexeme.specs.Gap.{blanks-and-comment}
-
-pub data Chomping : Type 0 where
-  strip clip keep : Chomping
 
 pub record Header : Type 0 where
   pub chomping : Chomping
@@ -32,7 +31,7 @@ unfoldable pub isChomp : ℕ → Bool
 isChomp c = eqb c '+' || eqb c '-'
 
 unfoldable pub chomping-of : ℕ → Chomping
-chomping-of c = pick (eqb c '+') keep (pick (eqb c '-') strip clip)
+chomping-of c = pick (eqb c '+') Keep (pick (eqb c '-') Strip Clip)
 
 -- one for each indicator that stands there
 abbrev pub one-if : Bool → ℕ
@@ -49,7 +48,7 @@ indicators start p =
         got (record { chomping = chomping-of c; increment = n; place = skip-by (1 + one-if (isDigit d)) p })
       | false ↦ increment-of start c >>= λ n. elim (isDigit c) [
         | true ↦ got (record { chomping = chomping-of d; increment = n; place = skip-by (1 + one-if (isChomp d)) p })
-        | false ↦ got (record { chomping = clip; increment = 0; place = p })
+        | false ↦ got (record { chomping = Clip; increment = 0; place = p })
       ]
     ]
 
@@ -149,9 +148,9 @@ lines-after (inside w) = []
 lines-after (behind w n) = replicate n line-feed
 
 unfoldable pub chomped : Chomping → Bool → Line → List ℕ
-chomped strip last l = []
-chomped clip last l = own-break l ++ pick last (line-feed ∷ []) []
-chomped keep last l = own-break l ++ pick last (line-feed ∷ []) [] ++ lines-after l
+chomped Strip last l = []
+chomped Clip last l = own-break l ++ pick last (line-feed ∷ []) []
+chomped Keep last l = own-break l ++ pick last (line-feed ∷ []) [] ++ lines-after l
 
 abbrev pub content-end : Layout → Line → Place → Run
 content-end b l p =
@@ -170,9 +169,9 @@ content b l m (c ∷ cs) =
 
 -- the text where the whole text ends before any content
 unfoldable pub no-content : Chomping → ℕ → Bool → List ℕ
-no-content strip n part = []
-no-content clip n part = []
-no-content keep n part = pick (eqb n 0 && part) (line-feed ∷ []) (replicate n line-feed)
+no-content Strip n part = []
+no-content Clip n part = []
+no-content Keep n part = pick (eqb n 0 && part) (line-feed ∷ []) (replicate n line-feed)
 
 -- 32: the first content column is above the parent's but below its own indent
 unfoldable pub block-content : Layout → Style → ℕ → Mark → Margin → Read Lexeme

@@ -5,6 +5,8 @@ use mathlib.Core.List.{List}
 use lib.Dec.{eqb}
 use lib.ListN.{drop}
 use Rattle.yaml_text.specs.declared.Mark.{Mark}
+use Rattle.yaml_lexeme.specs.declared.Named.{Named}
+use Rattle.yaml_lexeme.specs.declared.Named.the-variants.{Digits, Stands, Unknown}
 use Rattle.yaml_text.specs.Pick.{pick}
 use Rattle.yaml_text.specs.Char.{'0', backslash, double-quote, space, tab}
 use Rattle.yaml_text.specs.Utf8.{isScalar}
@@ -16,23 +18,16 @@ pub record Escaped : Type 0 where
   -- how many characters it takes behind its first one (the backslash, the percent sign)
   pub took : ℕ
 
-pub data Named : Type 0 where
-  -- a letter that stands for one character
-  stands : ℕ → Named
-  -- a letter before so many hexadecimal digits
-  digits : ℕ → Named
-  unknown : Named
-
 -- 0 a b t tab n v f r e space " / \ N _ L P, x u U
 unfoldable pub named : ℕ → Named
 named c =
-    pick (eqb c '0') (stands 0) (pick (eqb c 97) (stands 7) (pick (eqb c 98) (stands 8)
-    (pick (eqb c 116) (stands 9) (pick (eqb c tab) (stands 9) (pick (eqb c 110) (stands 10)
-    (pick (eqb c 118) (stands 11) (pick (eqb c 102) (stands 12) (pick (eqb c 114) (stands 13)
-    (pick (eqb c 101) (stands 27) (pick (eqb c space) (stands 32) (pick (eqb c double-quote) (stands 34)
-    (pick (eqb c 47) (stands 47) (pick (eqb c backslash) (stands 92) (pick (eqb c 78) (stands 0x85)
-    (pick (eqb c 95) (stands 0xA0) (pick (eqb c 76) (stands 0x2028) (pick (eqb c 80) (stands 0x2029)
-    (pick (eqb c 120) (digits 2) (pick (eqb c 117) (digits 4) (pick (eqb c 85) (digits 8) unknown))))))))))))))))))))
+    pick (eqb c '0') (Stands 0) (pick (eqb c 97) (Stands 7) (pick (eqb c 98) (Stands 8)
+    (pick (eqb c 116) (Stands 9) (pick (eqb c tab) (Stands 9) (pick (eqb c 110) (Stands 10)
+    (pick (eqb c 118) (Stands 11) (pick (eqb c 102) (Stands 12) (pick (eqb c 114) (Stands 13)
+    (pick (eqb c 101) (Stands 27) (pick (eqb c space) (Stands 32) (pick (eqb c double-quote) (Stands 34)
+    (pick (eqb c 47) (Stands 47) (pick (eqb c backslash) (Stands 92) (pick (eqb c 78) (Stands 0x85)
+    (pick (eqb c 95) (Stands 0xA0) (pick (eqb c 76) (Stands 0x2028) (pick (eqb c 80) (Stands 0x2029)
+    (pick (eqb c 120) (Digits 2) (pick (eqb c 117) (Digits 4) (pick (eqb c 85) (Digits 8) Unknown))))))))))))))))))))
 
 -- 38: a missing hexadecimal digit
 unfoldable pub hex-number : Mark → ℕ → ℕ → List ℕ → Read ℕ
@@ -45,12 +40,12 @@ hex-number start (suc n) v cs =
 
 -- 37: an unknown escape, or the end; 39: a surrogate or above 0x10FFFF. cs: the text behind the letter
 unfoldable pub escape-of : Mark → Named → List ℕ → Read Escaped
-escape-of start (stands c) cs = got (record { char = c; took = 1 })
-escape-of start (digits n) cs = do
+escape-of start (Stands c) cs = got (record { char = c; took = 1 })
+escape-of start (Digits n) cs = do
   v ← hex-number start n 0 cs
   _ ← need (isScalar 0 v) 39 start
   got (record { char = v; took = n + 1 })
-escape-of start unknown cs = refused 37 start
+escape-of start Unknown cs = refused 37 start
 
 -- cs: the text behind the backslash
 unfoldable pub escape : Mark → List ℕ → Read Escaped

@@ -10,6 +10,22 @@ pub enum Style {
     Folded,
 }
 
+// What a letter behind a backslash is.
+pub enum Named {
+    // It stands for one character.
+    Stands(u32),
+    // So many hexadecimal digits follow it.
+    Digits(u32),
+    Unknown,
+}
+
+// What becomes of the line breaks behind a block scalar.
+pub enum Chomping {
+    Strip,
+    Clip,
+    Keep,
+}
+
 // A text among the decoded bytes.
 pub struct Text {
     pub at: u32,

@@ -10,8 +10,9 @@ use Rattle.yaml_lexeme.specs.Token.{FlowEntry, FlowMappingEnd, FlowMappingStart
 use Rattle.yaml_text.specs.Refusal.{Read, _>>=_, got, need}
 use Rattle.yaml_lexeme.specs.Gap.{blanks-and-comment}
 use Rattle.yaml_scan.specs.Indent.{stack, top-ends}
-use Rattle.yaml_scan.specs.Keys.{no-key}
-use Rattle.yaml_scan.specs.State.{Level, Limits, News, State, adjacent-here, allow, at-place, emit, emit-lexeme, empty-if, in-flow, mark-of, put, remove-key, save-key, with-indents, with-keys, with-levels}
+use Rattle.yaml_scan.specs.declared.Candidate.the-variants.{Absent}
+use Rattle.yaml_scan.specs.declared.Level.{Level}
+use Rattle.yaml_scan.specs.State.{Limits, News, State, adjacent-here, allow, at-place, emit, emit-lexeme, empty-if, in-flow, mark-of, put, remove-key, save-key, with-indents, with-keys, with-levels}
 
 unfoldable pub has-level-room : Limits → State → Bool
 has-level-room limits s = ltb (length (s .levels)) (limits .levels)
@@ -39,7 +40,7 @@ fetch-flow-collection-start limits sequence s₀ = do
   s ← stack-bracket limits (save-key s₀)
   _ ← need (has-level-room limits s) 28 (mark-of s)
   l ← scan-bracket (pick sequence FlowSequenceStart FlowMappingStart) (s .place)
-  emit-lexeme l false (allow true (with-keys (no-key ∷ s .keys) (with-levels (new-level sequence ∷ s .levels) s)))
+  emit-lexeme l false (allow true (with-keys (Absent ∷ s .keys) (with-levels (new-level sequence ∷ s .levels) s)))
 
 -- the latest open bracket is of this kind
 unfoldable pub closes-level : Bool → List Level → Bool

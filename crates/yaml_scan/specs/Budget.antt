@@ -13,11 +13,15 @@ use Rattle.yaml_lexeme.specs.Token.{Kind, Lexeme, StreamStart, Token, empty-tok
 use Rattle.yaml_text.specs.Refusal.{Read, got, refused}
 use Rattle.yaml_text.specs.Decode.{decode}
 use Rattle.yaml_scan.specs.Indent.{stack, top-ends}
-use Rattle.yaml_scan.specs.Keys.{Candidate, key, lapse, no-key, remove, top-key}
+use Rattle.yaml_scan.specs.declared.Candidate.{Candidate}
+use Rattle.yaml_scan.specs.declared.Candidate.the-variants.{Possible, Absent}
+use Rattle.yaml_scan.specs.Keys.{lapse, remove, top-key}
 use Rattle.yaml_scan.specs.State.{Event, Limits, News, State, counting, ends-with, goes-on, in-flow, lapse-key, mark-of, preceded, put, remove-key, rest-of, save-key, unroll-to, with-indents}
 use Rattle.yaml_scan.specs.Bracket.{fetch-flow-collection-end, fetch-flow-collection-start, fetch-flow-entry, scan-bracket, stack-bracket}
 use Rattle.yaml_scan.specs.Value.{fetch-block-entry, fetch-key, roll-state, value-by, value-with, value-without}
-use Rattle.yaml_scan.specs.Choice.{Choice, after-marker, at-anchor, at-block, at-byte-order-mark, at-colon, at-comma, at-dash, at-directive, at-end, at-marker, at-plain, at-question, at-quoted, at-tag, below-indent, choice, closes-one, fetch, fetch-anchor, fetch-block-scalar, fetch-byte-order-mark, fetch-directive, fetch-document-indicator, fetch-flow-scalar, fetch-next, fetch-plain-scalar, fetch-stream-end, fetch-tag, forced, leave-blocks, opens, stray}
+use Rattle.yaml_scan.specs.declared.Choice.{Choice}
+use Rattle.yaml_scan.specs.declared.Choice.the-variants.{AtAnchor, AtBlock, AtByteOrderMark, AtColon, AtComma, AtDash, AtDirective, AtEnd, AtMarker, AtPlain, AtQuestion, AtQuoted, AtTag, BelowIndent, Closes, Opens, Stray}
+use Rattle.yaml_scan.specs.Choice.{after-marker, choice, fetch, fetch-anchor, fetch-block-scalar, fetch-byte-order-mark, fetch-directive, fetch-document-indicator, fetch-flow-scalar, fetch-next, fetch-plain-scalar, fetch-stream-end, fetch-tag, forced, leave-blocks}
 use Rattle.yaml_scan.specs.Scan.{Outcome, Verdict, accepted, after-events, after-step, answer, answer-for, begin, lent, no-verdict, outcome, refusal, run, scan, scanned, settled, spent, step, stopped, to-next-token, unrolled}
 use Rattle.yaml_text.specs.Test.{by-pick, by-test, true-false}
 use Rattle.yaml_text.specs.All.{All, all-any, all-bind, all-need, all-weak, holds, not-read}
@@ -93,9 +97,9 @@ key-fit n limits s h =
 
 value-by-fit : (n : ℕ) (limits : Limits) (k : Candidate) (s : State) → Next n s → All News (FitsNews n) (value-by limits k s)
 unfolding value-by value-with value-without
-value-by-fit n limits no-key s h =
+value-by-fit n limits Absent s h =
     all-need _ 46 (mark-of s) _ (all-bind _ (all-any (roll-state limits (mark-of s) s)) (λ r _. holds h))
-value-by-fit n limits (key required i k) s h = all-bind _ (all-any (roll-state limits k s)) (λ r _. holds h)
+value-by-fit n limits (Possible required i k) s h = all-bind _ (all-any (roll-state limits k s)) (λ r _. holds h)
 
 plain-scalar-fit : (n : ℕ) (s : State) → Next n s → All News (FitsNews n) (fetch-plain-scalar s)
 unfolding fetch-plain-scalar
@@ -144,23 +148,23 @@ stream-end-fit n s = all-need _ 47 (mark-of s) _ (all-bind _ (all-any (remove (f
 
 pub fetch-fit : (n : ℕ) (limits : Limits) (c : Choice) (s : State) → Next n s → All News (FitsNews n) (fetch limits c s)
 unfolding fetch
-fetch-fit n limits at-end s h = stream-end-fit n s
-fetch-fit n limits at-directive s h = fetch-directive-fit n s h
-fetch-fit n limits at-byte-order-mark s h = byte-order-mark-fit n s h
-fetch-fit n limits below-indent s h = not-read
-fetch-fit n limits stray s h = not-read
-fetch-fit n limits (at-marker starts) s h = document-indicator-fit n starts s h
-fetch-fit n limits (opens sequence) s h = flow-collection-start-fit n limits sequence s h
-fetch-fit n limits (closes-one sequence) s h = flow-collection-end-fit n sequence s h
-fetch-fit n limits at-comma s h = flow-entry-fit n s h
-fetch-fit n limits at-dash s h = block-entry-fit n limits s h
-fetch-fit n limits at-question s h = key-fit n limits s h
-fetch-fit n limits at-colon s h = value-by-fit n limits (top-key (s .keys)) s h
-fetch-fit n limits at-tag s h = fetch-tag-fit n s h
-fetch-fit n limits at-plain s h = plain-scalar-fit n s h
-fetch-fit n limits (at-anchor alias) s h = fetch-anchor-fit n alias s h
-fetch-fit n limits (at-block literal) s h = fetch-block-scalar-fit n literal s h
-fetch-fit n limits (at-quoted single) s h = fetch-flow-scalar-fit n single s h
+fetch-fit n limits AtEnd s h = stream-end-fit n s
+fetch-fit n limits AtDirective s h = fetch-directive-fit n s h
+fetch-fit n limits AtByteOrderMark s h = byte-order-mark-fit n s h
+fetch-fit n limits BelowIndent s h = not-read
+fetch-fit n limits Stray s h = not-read
+fetch-fit n limits (AtMarker starts) s h = document-indicator-fit n starts s h
+fetch-fit n limits (Opens sequence) s h = flow-collection-start-fit n limits sequence s h
+fetch-fit n limits (Closes sequence) s h = flow-collection-end-fit n sequence s h
+fetch-fit n limits AtComma s h = flow-entry-fit n s h
+fetch-fit n limits AtDash s h = block-entry-fit n limits s h
+fetch-fit n limits AtQuestion s h = key-fit n limits s h
+fetch-fit n limits AtColon s h = value-by-fit n limits (top-key (s .keys)) s h
+fetch-fit n limits AtTag s h = fetch-tag-fit n s h
+fetch-fit n limits AtPlain s h = plain-scalar-fit n s h
+fetch-fit n limits (AtAnchor alias) s h = fetch-anchor-fit n alias s h
+fetch-fit n limits (AtBlock literal) s h = fetch-block-scalar-fit n literal s h
+fetch-fit n limits (AtQuoted single) s h = fetch-flow-scalar-fit n single s h
 
 -- a step takes a character, or ends the run
 

@@ -5,6 +5,8 @@ use mathlib.Core.List.{List, [], _++_, _∷_}
 use lib.Dec.{eqb, ltb}
 use lib.ListN.{drop}
 use Rattle.yaml_text.specs.declared.Mark.{Mark}
+use Rattle.yaml_scan.specs.declared.Choice.{Choice}
+use Rattle.yaml_scan.specs.declared.Choice.the-variants.{AtEnd, AtDirective, AtByteOrderMark, BelowIndent, Stray, AtMarker, Opens, Closes, AtComma, AtDash, AtQuestion, AtColon, AtTag, AtPlain, AtAnchor, AtBlock, AtQuoted}
 use Rattle.yaml_text.specs.Pick.{pick}
 use Rattle.yaml_text.specs.Char.{'!', '%', '&', '*', '-', ':', '>', '?', '[', ']', '`', '|', at-sign, byte-order-mark, close-brace, comma, double-quote, open-brace, single-quote}
 use Rattle.yaml_text.specs.Class.{among, isBlankOrBreakz, isBom, isBreakz, isFlow, isZ, peek}
@@ -99,74 +101,59 @@ fetch-stream-end s = do
   _ ← remove e (top-key (s .keys))
   got (ends-with (block-ends (unroll-to 0 s .ended) e ++ (put (empty-token StreamEnd e) ∷ [])))
 
--- what stands at the place of a state
-pub data Choice : Type 0 where
-  at-end at-directive at-byte-order-mark below-indent stray : Choice
-  -- `---`, not `...`
-  at-marker : Bool → Choice
-  -- '[', not '{'
-  opens closes-one : Bool → Choice
-  at-comma at-dash at-question at-colon at-tag at-plain : Choice
-  -- an alias, not an anchor
-  at-anchor : Bool → Choice
-  -- '|', not '>'
-  at-block : Bool → Choice
-  -- single, not double
-  at-quoted : Bool → Choice
-
 -- the token whose first character is c, before the character n; 43: a character that starts no token
 unfoldable pub indicator : Bool → Bool → ℕ → ℕ → Choice
 indicator flow colon c n =
-    pick (eqb c '[') (opens true)
-    (pick (eqb c open-brace) (opens false)
-    (pick (eqb c ']') (closes-one true)
-    (pick (eqb c close-brace) (closes-one false)
-    (pick (eqb c comma) (pick flow at-comma stray)
-    (pick (eqb c '-' && isBlankOrBreakz n) at-dash
-    (pick (eqb c '?' && isBlankOrBreakz n) at-question
-    (pick ((eqb c '-' || eqb c '?') && flow && isFlow n) stray
-    (pick (eqb c ':' && colon) at-colon
-    (pick (eqb c '*') (at-anchor true)
-    (pick (eqb c '&') (at-anchor false)
-    (pick (eqb c '!') at-tag
-    (pick (eqb c '|') (pick flow stray (at-block true))
-    (pick (eqb c '>') (pick flow stray (at-block false))
-    (pick (eqb c single-quote) (at-quoted true)
-    (pick (eqb c double-quote) (at-quoted false)
-    (pick (among c (at-sign ∷ '`' ∷ '%' ∷ byte-order-mark ∷ [])) stray
-    at-plain))))))))))))))))
+    pick (eqb c '[') (Opens true)
+    (pick (eqb c open-brace) (Opens false)
+    (pick (eqb c ']') (Closes true)
+    (pick (eqb c close-brace) (Closes false)
+    (pick (eqb c comma) (pick flow AtComma Stray)
+    (pick (eqb c '-' && isBlankOrBreakz n) AtDash
+    (pick (eqb c '?' && isBlankOrBreakz n) AtQuestion
+    (pick ((eqb c '-' || eqb c '?') && flow && isFlow n) Stray
+    (pick (eqb c ':' && colon) AtColon
+    (pick (eqb c '*') (AtAnchor true)
+    (pick (eqb c '&') (AtAnchor false)
+    (pick (eqb c '!') AtTag
+    (pick (eqb c '|') (pick flow Stray (AtBlock true))
+    (pick (eqb c '>') (pick flow Stray (AtBlock false))
+    (pick (eqb c single-quote) (AtQuoted true)
+    (pick (eqb c double-quote) (AtQuoted false)
+    (pick (among c (at-sign ∷ '`' ∷ '%' ∷ byte-order-mark ∷ [])) Stray
+    AtPlain))))))))))))))))
 
 -- the end; at column 0 document markers; at column 0 and level 0 '%' and BOM; then 42; then the indicator
 unfoldable pub choice : State → Choice
 choice s =
     let c = look (s .place) in
     let outside = eqb (mark-of s .col) 0 && not (in-flow s) in
-    pick (isZ c) at-end
-    (pick (isMarker (mark-of s) (rest-of s)) (at-marker (eqb c '-'))
-    (pick (outside && eqb c '%') at-directive
-    (pick (outside && isBom c) at-byte-order-mark
-    (pick (ltb (edge-of (mark-of s)) (s .indents .indent)) below-indent
+    pick (isZ c) AtEnd
+    (pick (isMarker (mark-of s) (rest-of s)) (AtMarker (eqb c '-'))
+    (pick (outside && eqb c '%') AtDirective
+    (pick (outside && isBom c) AtByteOrderMark
+    (pick (ltb (edge-of (mark-of s)) (s .indents .indent)) BelowIndent
     (indicator (in-flow s) (takes-colon s) c (peek (rest-of s) 1))))))
 
 -- 42: a column below the indent (only in flow)
 unfoldable pub fetch : Limits → Choice → State → Read News
-fetch limits at-end s = fetch-stream-end s
-fetch limits at-directive s = fetch-directive s
-fetch limits at-byte-order-mark s = fetch-byte-order-mark s
-fetch limits below-indent s = refused 42 (mark-of s)
-fetch limits stray s = refused 43 (mark-of s)
-fetch limits (at-marker starts) s = fetch-document-indicator starts s
-fetch limits (opens sequence) s = fetch-flow-collection-start limits sequence s
-fetch limits (closes-one sequence) s = fetch-flow-collection-end sequence s
-fetch limits at-comma s = fetch-flow-entry s
-fetch limits at-dash s = fetch-block-entry limits s
-fetch limits at-question s = fetch-key limits s
-fetch limits at-colon s = fetch-value limits s
-fetch limits at-tag s = fetch-tag s
-fetch limits at-plain s = fetch-plain-scalar s
-fetch limits (at-anchor alias) s = fetch-anchor alias s
-fetch limits (at-block literal) s = fetch-block-scalar literal s
-fetch limits (at-quoted single) s = fetch-flow-scalar single s
+fetch limits AtEnd s = fetch-stream-end s
+fetch limits AtDirective s = fetch-directive s
+fetch limits AtByteOrderMark s = fetch-byte-order-mark s
+fetch limits BelowIndent s = refused 42 (mark-of s)
+fetch limits Stray s = refused 43 (mark-of s)
+fetch limits (AtMarker starts) s = fetch-document-indicator starts s
+fetch limits (Opens sequence) s = fetch-flow-collection-start limits sequence s
+fetch limits (Closes sequence) s = fetch-flow-collection-end sequence s
+fetch limits AtComma s = fetch-flow-entry s
+fetch limits AtDash s = fetch-block-entry limits s
+fetch limits AtQuestion s = fetch-key limits s
+fetch limits AtColon s = fetch-value limits s
+fetch limits AtTag s = fetch-tag s
+fetch limits AtPlain s = fetch-plain-scalar s
+fetch limits (AtAnchor alias) s = fetch-anchor alias s
+fetch limits (AtBlock literal) s = fetch-block-scalar literal s
+fetch limits (AtQuoted single) s = fetch-flow-scalar single s
 
 abbrev pub fetch-next : Limits → State → Read News
 fetch-next limits s = fetch limits (choice s) s

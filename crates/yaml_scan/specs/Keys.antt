@@ -5,16 +5,13 @@ use mathlib.Core.List.{List, [], _∷_}
 use lib.Dec.{ltb}
 use lib.ListN.{drop}
 use Rattle.yaml_text.specs.declared.Mark.{Mark}
+use Rattle.yaml_scan.specs.declared.Candidate.{Candidate}
+use Rattle.yaml_scan.specs.declared.Candidate.the-variants.{Absent, Possible}
 use Rattle.yaml_text.specs.Refusal.{Read, _>>=_, got, need}
-
-pub data Candidate : Type 0 where
-  no-key : Candidate
-  -- whether it is required, the number of its token, its mark
-  key : Bool → ℕ → Mark → Candidate
 
 -- the candidate of the current level: one is kept per level, the current level's first
 unfoldable pub top-key : List Candidate → Candidate
-top-key [] = no-key
+top-key [] = Absent
 top-key (k ∷ ks) = k
 
 abbrev pub set-key : Candidate → List Candidate → List Candidate
@@ -22,8 +19,8 @@ set-key k ks = k ∷ drop 1 ks
 
 -- 41: a required key is removed
 unfoldable pub remove : Mark → Candidate → Read Candidate
-remove m no-key = got no-key
-remove m (key required n k) = need (not required) 41 m >>= λ _. got no-key
+remove m Absent = got Absent
+remove m (Possible required n k) = need (not required) 41 m >>= λ _. got Absent
 
 -- the mark's line is over, or 1,024 characters are
 unfoldable pub stale : Mark → Mark → Bool
@@ -31,9 +28,9 @@ stale k m = ltb (k .line) (m .line) || ltb (k .index + 1024) (m .index)
 
 -- at level 0, before each token; 41: a required key lapses
 unfoldable pub lapse : Mark → Candidate → Read Candidate
-lapse m no-key = got no-key
-lapse m (key required n k) =
+lapse m Absent = got Absent
+lapse m (Possible required n k) =
     elim (stale k m) [
-      | true ↦ remove m (key required n k)
-      | false ↦ got (key required n k)
+      | true ↦ remove m (Possible required n k)
+      | false ↦ got (Possible required n k)
     ]

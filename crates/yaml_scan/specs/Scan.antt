@@ -16,7 +16,7 @@ use Rattle.yaml_text.specs.Refusal.{Read, _>>=_, got, need, refused}
 use Rattle.yaml_text.specs.Decode.{decode}
 use Rattle.yaml_lexeme.specs.Gap.{after-text, leading, skip-gap}
 use Rattle.yaml_scan.specs.Indent.{Unrolled, indents-of}
-use Rattle.yaml_scan.specs.Keys.{no-key}
+use Rattle.yaml_scan.specs.declared.Candidate.the-variants.{Absent}
 use Rattle.yaml_scan.specs.State.{Event, Limits, News, State, allow, at-place, block-ends, counting, ends-with, goes-on, in-flow, lapse-key, mark-of, preceded, put, put-before, rest-of, unroll-to, with-indents}
 use Rattle.yaml_scan.specs.Choice.{fetch-next}
 
@@ -66,7 +66,7 @@ run limits (suc k) s = after-step (step limits s) (λ s'. run limits k s')
 -- StreamStart was given
 abbrev pub begin : List ℕ → State
 begin cs =
-    record { place = here origin cs; leads = true; allowed = true; indents = indents-of 0 []; keys = no-key ∷ []; levels = []; adjacent = 0; count = 1 }
+    record { place = here origin cs; leads = true; allowed = true; indents = indents-of 0 []; keys = Absent ∷ []; levels = []; adjacent = 0; count = 1 }
 
 -- each step but the last takes a character
 unfoldable pub scan : Limits → List ℕ → Outcome

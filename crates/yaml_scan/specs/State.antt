@@ -10,17 +10,10 @@ use Rattle.yaml_text.specs.Mark.{Place, edge-of}
 use Rattle.yaml_lexeme.specs.Token.{BlockEnd, Kind, Lexeme, Token, empty-token}
 use Rattle.yaml_text.specs.Refusal.{Read, _>>=_, got}
 use Rattle.yaml_scan.specs.Indent.{Indents, Unrolled, top-ends, unroll}
-use Rattle.yaml_scan.specs.Keys.{Candidate, key, lapse, remove, set-key, top-key}
-
--- a flow level
-pub record Level : Type 0 where
-  -- opened by '['
-  pub sequence : Bool
-  -- ':' and '?' came in this entry
-  pub colon : Bool
-  pub question : Bool
-  -- K5: a FlowMappingStart was put in, which waits for its end
-  pub implicit : Bool
+use Rattle.yaml_scan.specs.declared.Candidate.{Candidate}
+use Rattle.yaml_scan.specs.declared.Level.{Level}
+use Rattle.yaml_scan.specs.declared.Candidate.the-variants.{Possible}
+use Rattle.yaml_scan.specs.Keys.{lapse, remove, set-key, top-key}
 
 pub record State : Type 0 where
   pub place : Place
@@ -158,7 +151,7 @@ counting n s =
 unfoldable pub save-key : State → State
 save-key s =
     let required = not (in-flow s) && eqb (s .indents .indent) (edge-of (mark-of s)) && top-ends (s .indents .entries) in
-    pick (s .allowed) (with-keys (set-key (key required (s .count) (mark-of s)) (s .keys)) s) s
+    pick (s .allowed) (with-keys (set-key (Possible required (s .count) (mark-of s)) (s .keys)) s) s
 
 -- K2: this level's candidate goes
 unfoldable pub remove-key : State → Read State

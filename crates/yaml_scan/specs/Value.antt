@@ -10,8 +10,11 @@ use Rattle.yaml_text.specs.Mark.{Place, along, edge-of, skip-by}
 use Rattle.yaml_lexeme.specs.Token.{BlockEntry, BlockMappingStart, BlockSequenceStart, FlowMappingStart, Key, Kind, Lexeme, Value, empty-token, lexeme}
 use Rattle.yaml_text.specs.Refusal.{Read, _>>=_, need}
 use Rattle.yaml_scan.specs.Indent.{Indents, Rolled, roll-at}
-use Rattle.yaml_scan.specs.Keys.{Candidate, key, no-key, set-key, top-key}
-use Rattle.yaml_scan.specs.State.{Level, Limits, News, State, allow, at-place, emit, empty-if, in-flow, mark-of, put, put-before, remove-key, rest-of, with-indents, with-keys, with-levels}
+use Rattle.yaml_scan.specs.declared.Candidate.{Candidate}
+use Rattle.yaml_scan.specs.declared.Candidate.the-variants.{Possible, Absent}
+use Rattle.yaml_scan.specs.Keys.{set-key, top-key}
+use Rattle.yaml_scan.specs.declared.Level.{Level}
+use Rattle.yaml_scan.specs.State.{Limits, News, State, allow, at-place, emit, empty-if, in-flow, mark-of, put, put-before, remove-key, rest-of, with-indents, with-keys, with-levels}
 
 -- the one character here
 abbrev pub one-character : Kind → Place → Lexeme
@@ -73,7 +76,7 @@ unfoldable pub value-with : Limits → ℕ → Mark → State → Read News
 value-with limits n k s = do
   r ← roll-state limits k s
   let kinds = kind-if (begins-pair (s .levels)) FlowMappingStart ++ kind-if (r .starts) BlockMappingStart ++ (Key ∷ [])
-  emit (put-before n (map (λ (kind : Kind). empty-token kind k) kinds) ∷ put (one-character Value (s .place) .token) ∷ []) (valued false (r .indents) no-key s)
+  emit (put-before n (map (λ (kind : Kind). empty-token kind k) kinds) ∷ put (one-character Value (s .place) .token) ∷ []) (valued false (r .indents) Absent s)
 
 -- without: 46: at level 0 a simple key must be allowed
 unfoldable pub value-without : Limits → State → Read News
@@ -81,11 +84,11 @@ value-without limits s = do
   _ ← need (in-flow s || s .allowed) 46 (mark-of s)
   r ← roll-state limits (mark-of s) s
   let starts = empty-if (begins-pair (s .levels)) FlowMappingStart (mark-of s) ++ empty-if (r .starts) BlockMappingStart (mark-of s)
-  emit (starts ++ (put (one-character Value (s .place) .token) ∷ [])) (valued (not (in-flow s)) (r .indents) no-key s)
+  emit (starts ++ (put (one-character Value (s .place) .token) ∷ [])) (valued (not (in-flow s)) (r .indents) Absent s)
 
 unfoldable pub value-by : Limits → Candidate → State → Read News
-value-by limits no-key s = value-without limits s
-value-by limits (key required n k) s = value-with limits n k s
+value-by limits Absent s = value-without limits s
+value-by limits (Possible required n k) s = value-with limits n k s
 
 abbrev pub fetch-value : Limits → State → Read News
 fetch-value limits s = value-by limits (top-key (s .keys)) s

@@ -1,1 +1,47 @@
-// The definition of the scan: no types, no code.
+// The types of the scan, which the definition in specs/ and the code above it share. No code.
+use yaml_text::Mark;
+
+// A simple key's candidate (K2).
+pub enum Candidate {
+    Absent,
+    // Whether it is required, the number of its token, its mark.
+    Possible(bool, u32, Mark),
+}
+
+// A flow level.
+pub struct Level {
+    // Opened by '['.
+    pub sequence: bool,
+    // ':' and '?' came in this entry.
+    pub colon: bool,
+    pub question: bool,
+    // A FlowMappingStart was put in, which waits for its end (K5).
+    pub implicit: bool,
+}
+
+// What stands at the place of a state (K3).
+pub enum Choice {
+    AtEnd,
+    AtDirective,
+    AtByteOrderMark,
+    BelowIndent,
+    Stray,
+    // `---`, not `...`.
+    AtMarker(bool),
+    // '[', not '{'.
+    Opens(bool),
+    // ']', not '}'.
+    Closes(bool),
+    AtComma,
+    AtDash,
+    AtQuestion,
+    AtColon,
+    AtTag,
+    AtPlain,
+    // An alias, not an anchor.
+    AtAnchor(bool),
+    // '|', not '>'.
+    AtBlock(bool),
+    // Single, not double.
+    AtQuoted(bool),
+}
