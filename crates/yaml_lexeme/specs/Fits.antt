@@ -7,13 +7,14 @@ use native.Mathlib.Omega.{arith}
 use lib.Dec.{eqb, leb, ltb}
 use lib.ListN.{drop, length}
 use Rattle.yaml_text.specs.declared.Mark.{Mark}
+use Rattle.yaml_lexeme.specs.declared.Before.{Before}
 use Rattle.yaml_lexeme.specs.declared.Style.{Style}
 use Rattle.yaml_text.specs.Char.{'!', '#', '%', '0', '<', space}
 use Rattle.yaml_text.specs.Class.{isAlpha, isAnchor, isBlank, isBreak, isDigit, isNonSpace, isTag, isUri, none-left, peek, same}
 use Rattle.yaml_text.specs.Mark.{Place, Run, along, before-run, break-length, ends-line, here, look, new-line, nothing-at, over, skip-break, skip-by, word}
 use Rattle.yaml_lexeme.specs.Token.{Lexeme}
 use Rattle.yaml_text.specs.Refusal.{Read, before-read}
-use Rattle.yaml_lexeme.specs.Gap.{Before, Gap, GapTurn, after-gap-turn, blanks, blanks-and-comment, comment-after, gap-turn, pass, skip-gap, stop, to-break, wrong}
+use Rattle.yaml_lexeme.specs.Gap.{Gap, GapTurn, after-gap-turn, blanks, blanks-and-comment, comment-after, gap-turn, pass, skip-gap, stop, to-break, wrong}
 use Rattle.yaml_lexeme.specs.Plain.{glue, plain-stops, plain-text, scan-plain-scalar}
 use Rattle.yaml_lexeme.specs.Quoted.{Mode, Quote, Turn, after-turn, chars-of, closes, goes, quoted-run, quoted-turn, scan-flow-scalar, wrong-quote}
 use Rattle.yaml_lexeme.specs.Block.{ContentTurn, Header, Layout, Line, Margin, after-content, ahead, block-content, content, content-column, content-stops, content-turn, increment-of, indicators, isChomp, margin, one-if, opens-content, scan-block-scalar, writes}

@@ -4,24 +4,13 @@ use mathlib.Core.Bool.{Bool, _&&_, _||_, false, not, true}
 use mathlib.Core.List.{List, [], _∷_}
 use lib.Dec.{eqb}
 use Rattle.yaml_text.specs.declared.Mark.{Mark}
+use Rattle.yaml_lexeme.specs.declared.Before.{Before}
+use Rattle.yaml_lexeme.specs.declared.Before.the-variants.{AfterText, InComment, Leading, Spaced, Tabbed}
 use Rattle.yaml_text.specs.Pick.{pick}
 use Rattle.yaml_text.specs.Char.{'#', tab}
 use Rattle.yaml_text.specs.Class.{isBlank, isBreak, peek}
 use Rattle.yaml_text.specs.Mark.{Place, along, here, look, over}
 use Rattle.yaml_text.specs.Refusal.{Read, got, refused}
-
--- what stands before a character of a gap
-pub data Before : Type 0 where
-  -- this line's blanks from column 0, no tab among them
-  leading : Before
-  -- the same with a tab: the first stands there
-  tabbed : Mark → Before
-  -- a blank, behind text of this line
-  spaced : Before
-  -- text of this line
-  after-text : Before
-  -- a comment
-  in-comment : Before
 
 -- a gap's turn over one character
 pub data GapTurn : Type 0 where
@@ -32,42 +21,42 @@ pub data GapTurn : Type 0 where
   wrong : ℕ → Mark → GapTurn
 
 unfoldable pub on-blank : Bool → Mark → ℕ → Before → Before
-on-blank flow m c leading = pick (not flow && eqb c tab) (tabbed m) leading
-on-blank flow m c (tabbed t) = tabbed t
-on-blank flow m c spaced = spaced
-on-blank flow m c after-text = spaced
-on-blank flow m c in-comment = in-comment
+on-blank flow m c Leading = pick (not flow && eqb c tab) (Tabbed m) Leading
+on-blank flow m c (Tabbed t) = Tabbed t
+on-blank flow m c Spaced = Spaced
+on-blank flow m c AfterText = Spaced
+on-blank flow m c InComment = InComment
 
 -- 44: '#' not at column 0 nor after a blank
 unfoldable pub on-hash : Mark → Before → GapTurn
-on-hash m leading = pass in-comment false
-on-hash m (tabbed t) = pass in-comment false
-on-hash m spaced = pass in-comment false
-on-hash m after-text = wrong 44 m
-on-hash m in-comment = pass in-comment false
+on-hash m Leading = pass InComment false
+on-hash m (Tabbed t) = pass InComment false
+on-hash m Spaced = pass InComment false
+on-hash m AfterText = wrong 44 m
+on-hash m InComment = pass InComment false
 
 -- 45: tab in leading blanks, at the first such tab
 unfoldable pub on-other : Before → GapTurn
-on-other leading = stop
-on-other (tabbed t) = wrong 45 t
-on-other spaced = stop
-on-other after-text = stop
-on-other in-comment = pass in-comment false
+on-other Leading = stop
+on-other (Tabbed t) = wrong 45 t
+on-other Spaced = stop
+on-other AfterText = stop
+on-other InComment = pass InComment false
 
 -- a break at flow level 0 allows a simple key; comments run to the break
 unfoldable pub gap-turn : Bool → Before → Mark → ℕ → GapTurn
 gap-turn flow b m c =
-    pick (isBreak c) (pass leading (not flow))
+    pick (isBreak c) (pass Leading (not flow))
     (pick (isBlank c) (pass (on-blank flow m c b) false)
     (pick (eqb c '#') (on-hash m b) (on-other b)))
 
 -- only blanks stand between the line's start and here
 unfoldable pub isLeading : Before → Bool
-isLeading leading = true
-isLeading (tabbed t) = true
-isLeading spaced = false
-isLeading after-text = false
-isLeading in-comment = false
+isLeading Leading = true
+isLeading (Tabbed t) = true
+isLeading Spaced = false
+isLeading AfterText = false
+isLeading InComment = false
 
 pub record Gap : Type 0 where
   pub place : Place

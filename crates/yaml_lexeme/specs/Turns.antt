@@ -5,10 +5,11 @@ use mathlib.Core.List.{List, [], _∷_}
 use mathlib.Core.Path.{_≡_, refl}
 use lib.Dec.{eqb, ltb}
 use Rattle.yaml_text.specs.declared.Mark.{Mark}
+use Rattle.yaml_lexeme.specs.declared.Before.{Before}
 use Rattle.yaml_text.specs.Char.{space}
 use Rattle.yaml_text.specs.Class.{isBlank, isBreak, peek}
 use Rattle.yaml_text.specs.Mark.{along, ends-line, here, nothing-at, over}
-use Rattle.yaml_lexeme.specs.Gap.{Before, after-gap-turn, blanks, gap-turn, skip-gap, to-break, isLeading}
+use Rattle.yaml_lexeme.specs.Gap.{after-gap-turn, blanks, gap-turn, skip-gap, to-break, isLeading}
 use Rattle.yaml_lexeme.specs.Plain.{glue, plain-stops, plain-text}
 use Rattle.yaml_lexeme.specs.Quoted.{Mode, Quote, after-turn, quoted-run, quoted-turn}
 use Rattle.yaml_lexeme.specs.Block.{Layout, Line, after-content, content, content-turn, margin, content-end}

@@ -10,6 +10,19 @@ pub enum Style {
     Folded,
 }
 
+// What stands before a character of a gap (K1).
+pub enum Before {
+    // This line's blanks from column 0, no tab among them.
+    Leading,
+    // The same with a tab: the first stands there.
+    Tabbed(Mark),
+    // A blank, behind text of this line.
+    Spaced,
+    // Text of this line.
+    AfterText,
+    InComment,
+}
+
 // What a letter behind a backslash is.
 pub enum Named {
     // It stands for one character.

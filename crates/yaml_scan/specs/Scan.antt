@@ -14,7 +14,8 @@ use Rattle.yaml_text.specs.Mark.{edge-of, here, origin, over}
 use Rattle.yaml_lexeme.specs.Token.{StreamStart, Token, empty-token, records, texts}
 use Rattle.yaml_text.specs.Refusal.{Read, _>>=_, got, need, refused}
 use Rattle.yaml_text.specs.Decode.{decode}
-use Rattle.yaml_lexeme.specs.Gap.{after-text, leading, skip-gap}
+use Rattle.yaml_lexeme.specs.declared.Before.the-variants.{AfterText, Leading}
+use Rattle.yaml_lexeme.specs.Gap.{skip-gap}
 use Rattle.yaml_scan.specs.Indent.{Unrolled, indents-of}
 use Rattle.yaml_scan.specs.declared.Candidate.the-variants.{Absent}
 use Rattle.yaml_scan.specs.State.{Event, Limits, News, State, allow, at-place, block-ends, counting, ends-with, goes-on, in-flow, lapse-key, mark-of, preceded, put, put-before, rest-of, unroll-to, with-indents}
@@ -23,7 +24,7 @@ use Rattle.yaml_scan.specs.Choice.{fetch-next}
 -- the gap, then the lapse
 unfoldable pub to-next-token : State → Read State
 to-next-token s = do
-  g ← skip-gap (in-flow s) (s .allowed) (pick (s .leads) leading after-text) (mark-of s) (rest-of s)
+  g ← skip-gap (in-flow s) (s .allowed) (pick (s .leads) Leading AfterText) (mark-of s) (rest-of s)
   lapse-key (at-place (g .place) (g .leads) (allow (g .allowed) s))
 
 -- unroll_indent to the column; in flow nothing ends
