@@ -1,4 +1,4 @@
--- Anchors and aliases.
+-- Anchors and aliases (27; YAML 1.2.2, 6.9.2 and 7.1).
 use mathlib.Core.Bool.{Bool, not}
 use lib.ListN.{drop}
 use Rattle.yaml_text.specs.Pick.{pick}

@@ -1,4 +1,4 @@
--- K7: block scalars (29 to 32).
+-- K7: block scalars (29 to 32; YAML 1.2.2, 8.1).
 use Prim.Native.Nat.{_+_, _-_, max, suc, zero, ℕ}
 use mathlib.Core.Bool.{Bool, _&&_, _||_, false, not, true}
 use mathlib.Core.List.{List, [], _++_, _∷_}
@@ -23,13 +23,14 @@ pub record Header : Type 0 where
   pub increment : ℕ
   pub place : Place
 
--- 29: the indicator 0
+-- 8.1.1.1. 29: the indicator 0
 unfoldable pub increment-of : Mark → ℕ → Read ℕ
 increment-of start c = pick (isDigit c) (pick (eqb c '0') (refused 29 start) (got (c - '0'))) (got 0)
 
 unfoldable pub isChomp : ℕ → Bool
 isChomp c = eqb c '+' || eqb c '-'
 
+-- 8.1.1.2
 unfoldable pub chomping-of : ℕ → Chomping
 chomping-of c = pick (eqb c '+') Keep (pick (eqb c '-') Strip Clip)
 
@@ -52,7 +53,7 @@ indicators start p =
       ]
     ]
 
--- the largest column reached by leading spaces up to the first line with other text
+-- the largest column reached by leading spaces up to the first line with other text; most: on the lines before this one
 unfoldable pub largest : ℕ → Mark → List ℕ → ℕ
 largest most m [] = max most (m .col)
 largest most m (c ∷ cs) =
@@ -74,7 +75,7 @@ pub record Margin : Type 0 where
   pub breaks : ℕ
   pub place : Place
 
--- over empty lines, and spaces up to the column
+-- over empty lines, and spaces up to the column, n lines having ended
 unfoldable pub margin : ℕ → ℕ → Mark → List ℕ → Margin
 margin column n m [] = record { breaks = n; place = here m [] }
 margin column n m (c ∷ cs) =
@@ -102,7 +103,7 @@ pub data Line : Type 0 where
   -- behind a content line, which opened with a blank or not, and n more lines
   behind : Bool → ℕ → Line
 
--- line feeds, or a space for a single folded one, before a content line that opens with a blank or not
+-- 8.1.2, 8.1.3: line feeds, or a space for a single folded one, before a content line that opens with a blank or not. (Inside a line none is asked for.)
 unfoldable pub separator : Bool → Bool → Line → List ℕ
 separator literal blank (ahead n) = replicate n line-feed
 separator literal blank (inside w) = []
@@ -119,7 +120,7 @@ pub data ContentTurn : Type 0 where
   writes : List ℕ → Line → ContentTurn
   content-stops : ContentTurn
 
--- between content lines
+-- between content lines: over empty lines and spaces up to the column, then a content line or the end of the scalar
 unfoldable pub opening-turn : Layout → Line → Mark → ℕ → List ℕ → ContentTurn
 opening-turn b l m c cs =
     elim ((eqb c space && ltb (m .col) (b .column)) || isBreak c) [
@@ -136,22 +137,25 @@ content-turn b (behind w n) m c cs = opening-turn b (behind w n) m c cs
 content-turn b (inside w) m c cs =
     pick (isBreak c) (writes [] (pick (halfBreak c (peek cs 0)) (inside w) (behind w 0))) (writes (c ∷ []) (inside w))
 
--- the line feeds behind the content. last: the text ends in a line that has no break
+-- the break of the last content line
 unfoldable pub own-break : Line → List ℕ
 own-break (ahead n) = []
 own-break (inside w) = []
 own-break (behind w n) = line-feed ∷ []
 
+-- the empty lines behind it
 unfoldable pub lines-after : Line → List ℕ
 lines-after (ahead n) = replicate n line-feed
 lines-after (inside w) = []
 lines-after (behind w n) = replicate n line-feed
 
+-- 8.1.1.2: the line feeds behind the content. last: the text ends in a line that has no break, which counts as one
 unfoldable pub chomped : Chomping → Bool → Line → List ℕ
 chomped Strip last l = []
 chomped Clip last l = own-break l ++ pick last (line-feed ∷ []) []
 chomped Keep last l = own-break l ++ pick last (line-feed ∷ []) [] ++ lines-after l
 
+-- such a line reaches the content's column, and is not empty
 abbrev pub content-end : Layout → Line → Place → Run
 content-end b l p =
     record { text = chomped (b .chomping) (none-left (p .rest) && leb (max (b .column) 1) (p .mark .col)) l; place = p }
@@ -160,6 +164,7 @@ abbrev pub after-content : ContentTurn → (Line → Run) → Run → Run
 after-content (writes t l) go end = before-run t (go l)
 after-content content-stops go end = end
 
+-- the content from here on
 unfoldable pub content : Layout → Line → Mark → List ℕ → Run
 content b l m [] = content-end b l (here m [])
 content b l m (c ∷ cs) =
@@ -167,7 +172,7 @@ content b l m (c ∷ cs) =
     (λ l'. content b l' (over m c (peek cs 0)) cs)
     (content-end b l (here m (c ∷ cs)))
 
--- the text where the whole text ends before any content
+-- the text where the whole text ends before any content, after n lines; part: in a line that is not empty
 unfoldable pub no-content : Chomping → ℕ → Bool → List ℕ
 no-content Strip n part = []
 no-content Clip n part = []

@@ -1,4 +1,4 @@
--- Directives (10 to 19).
+-- Directives (10 to 19; YAML 1.2.2, 6.8).
 use Prim.Native.Nat.{_*_, _+_, _-_, suc, ℕ}
 use mathlib.Core.Bool.{Bool, _&&_, _||_, false, not, true}
 use mathlib.Core.List.{List, [], _++_, _∷_}
@@ -73,7 +73,7 @@ tag-directive start p = do
   _ ← need (isBlankOrBreakz (look e)) 19 start
   got (lexeme (TagDirective (h .text) (r .text)) start (e .mark) e)
 
--- parameters joined by one space. some: a word came before; blank: after a blank
+-- parameters joined by one space; '#' words are parameters. some: a word came before; blank: after a blank
 unfoldable pub parameters : Bool → Bool → Mark → List ℕ → Run
 parameters some blank m [] = nothing-at (here m [])
 parameters some blank m (c ∷ cs) =
@@ -85,6 +85,7 @@ parameters some blank m (c ∷ cs) =
       ]
     ]
 
+-- the span takes in the blanks behind the last word
 unfoldable pub reserved-directive : Mark → List ℕ → Place → Lexeme
 reserved-directive start name p =
     let r = parameters false false (p .mark) (p .rest) in

@@ -1,4 +1,4 @@
--- The escapes of double quotes: an escape is one character with how many characters it takes, or a refusal at the scalar's start.
+-- The escapes of double quotes (YAML 1.2.2, 5.7; 37 to 39): an escape is one character with how many characters it takes, or a refusal at the scalar's start.
 use Prim.Native.Nat.{_*_, _+_, suc, zero, ℕ}
 use mathlib.Core.Bool.{false, true}
 use mathlib.Core.List.{List}
@@ -29,7 +29,7 @@ named c =
     (pick (eqb c 95) (Stands 0xA0) (pick (eqb c 76) (Stands 0x2028) (pick (eqb c 80) (Stands 0x2029)
     (pick (eqb c 120) (Digits 2) (pick (eqb c 117) (Digits 4) (pick (eqb c 85) (Digits 8) Unknown))))))))))))))))))))
 
--- 38: a missing hexadecimal digit
+-- n hexadecimal digits, behind those of the value v; 38: one is missing
 unfoldable pub hex-number : Mark → ℕ → ℕ → List ℕ → Read ℕ
 hex-number start zero v cs = got v
 hex-number start (suc n) v cs =

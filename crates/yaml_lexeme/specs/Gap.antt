@@ -1,4 +1,4 @@
--- K1: gaps between tokens; and the blanks and comment that are read after a token.
+-- K1: gaps between tokens; and the blanks and comment that are read after a token (44, 45).
 use Prim.Native.Nat.{ℕ}
 use mathlib.Core.Bool.{Bool, _&&_, _||_, false, not, true}
 use mathlib.Core.List.{List, [], _∷_}
@@ -20,6 +20,7 @@ pub data GapTurn : Type 0 where
   stop : GapTurn
   wrong : ℕ → Mark → GapTurn
 
+-- a tab among the leading blanks counts at level 0 only; the first one is kept
 unfoldable pub on-blank : Bool → Mark → ℕ → Before → Before
 on-blank flow m c Leading = pick (not flow && eqb c tab) (Tabbed m) Leading
 on-blank flow m c (Tabbed t) = Tabbed t
@@ -68,7 +69,7 @@ after-gap-turn (pass b allows) go end = go b allows
 after-gap-turn stop go end = got end
 after-gap-turn (wrong n m) go end = refused n m
 
--- the gap that begins here
+-- the gap that begins here: behind b, with a simple key allowed or not
 unfoldable pub skip-gap : Bool → Bool → Before → Mark → List ℕ → Read Gap
 skip-gap flow allowed b m [] = got (record { place = here m []; allowed = allowed; leads = isLeading b })
 skip-gap flow allowed b m (c ∷ cs) =

@@ -1,4 +1,5 @@
 pub mod Token
+pub mod Held
 pub mod Gap
 pub mod Plain
 pub mod Escape
@@ -7,7 +8,6 @@ pub mod Block
 pub mod Tag
 pub mod Anchor
 pub mod Directive
-pub mod Held
-pub mod Fits
-pub mod Turns
 pub mod TokenLaws
+pub mod Turns
+pub mod Fits

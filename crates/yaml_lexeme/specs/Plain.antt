@@ -1,4 +1,4 @@
--- K7: plain scalars.
+-- K7: plain scalars, of one line.
 use Prim.Native.Nat.{ℕ}
 use mathlib.Core.Bool.{Bool, _&&_, _||_, false, true}
 use mathlib.Core.List.{List, [], _∷_}

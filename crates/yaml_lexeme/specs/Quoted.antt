@@ -1,4 +1,4 @@
--- Quoted scalars (33 to 40).
+-- Quoted scalars (33 to 40; YAML 1.2.2, 7.3.1 and 7.3.2).
 use Prim.Native.Nat.{suc, zero, ℕ}
 use mathlib.Core.Bool.{Bool, _&&_, _||_, false, not, true}
 use mathlib.Core.List.{List, [], _++_, _∷_}
@@ -43,7 +43,7 @@ pub data Turn : Type 0 where
   closes : List ℕ → Turn
   wrong-quote : ℕ → Mark → Turn
 
--- what blanks and breaks become once text follows: a single break is a space, an escaped one nothing
+-- what blanks and breaks become once text follows (6.5): a single break is a space, an escaped one nothing
 unfoldable pub folds-to : Mode → List ℕ
 folds-to chars-of = []
 folds-to (blanks-of bs) = bs
@@ -58,6 +58,7 @@ quoted-blank q m c (blanks-of bs) = goes [] (blanks-of (bs ++ (c ∷ []))) 0
 quoted-blank q m c (folded n) = pick (eqb c tab && ltb (edge-of m) (q .indent)) (wrong-quote 36 m) (goes [] (folded n) 0)
 quoted-blank q m c (joined n fresh) = pick (eqb c tab && ltb (edge-of m) (q .indent)) (wrong-quote 36 m) (goes [] (joined n false) 0)
 
+-- behind a break: blanks before it go
 unfoldable pub broken : Mode → Mode
 broken chars-of = folded 0
 broken (blanks-of bs) = folded 0
@@ -109,6 +110,7 @@ quoted-text q (joined n true) m c cs =
       | false ↦ quoted-line q (joined n true) m c cs
     ]
 
+-- blanks and breaks are kept back until text follows
 unfoldable pub quoted-turn : Quote → Mode → Mark → ℕ → List ℕ → Turn
 quoted-turn q b m c cs =
     elim (isBlank c) [

@@ -1,4 +1,4 @@
--- K8: tags, and the percent escapes of tags and %TAG prefixes (20 to 26).
+-- K8: tags, and the percent escapes of tags and %TAG prefixes (20 to 26; YAML 1.2.2, 6.9.1; RFC 3629).
 use Prim.Native.Nat.{_*_, _+_, _-_, suc, zero, ℕ}
 use mathlib.Core.Bool.{Bool, _&&_, _||_, false, not, true}
 use mathlib.Core.List.{List, [], _++_, _∷_}
@@ -32,13 +32,13 @@ trailing start (suc n) cs = do
   bs ← trailing start n (drop 3 cs)
   got (b ∷ bs)
 
--- 24: no such code point
+-- 24: no such code point: an overlong form, a surrogate, a value above 0x10FFFF. (`End` is never met: the lead octet is there.)
 unfoldable pub code-point : Mark → ℕ → Decoded → Read Escaped
 code-point start took (Char c n) = got (record { char = c; took = took })
 code-point start took Ill = refused 24 start
 code-point start took End = refused 24 start
 
--- from its percent sign; 22: a lead byte
+-- one character from its percent sign on; 22: a lead byte, by its leading bits alone, as 23
 unfoldable pub percent : Mark → List ℕ → Read Escaped
 percent start cs = do
   a ← octet start cs

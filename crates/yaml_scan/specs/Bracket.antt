@@ -14,6 +14,7 @@ use Rattle.yaml_scan.specs.declared.Candidate.the-variants.{Absent}
 use Rattle.yaml_scan.specs.declared.Level.{Level}
 use Rattle.yaml_scan.specs.State.{Limits, News, State, adjacent-here, allow, at-place, emit, emit-lexeme, empty-if, in-flow, mark-of, put, remove-key, save-key, with-indents, with-keys, with-levels}
 
+-- 28
 unfoldable pub has-level-room : Limits → State → Bool
 has-level-room limits s = ltb (length (s .levels)) (limits .levels)
 
@@ -26,7 +27,7 @@ scan-bracket k p = do
   e ← blanks-and-comment (skip-by 1 p)
   got (lexeme k (p .mark) (e .mark) e)
 
--- at level 0, while the top entry ends in BlockEnd, a non-ending entry with indent + 1 is stacked
+-- K6: at level 0, while the top entry ends in BlockEnd, a non-ending entry with indent + 1 is stacked
 unfoldable pub stack-bracket : Limits → State → Read State
 stack-bracket limits s =
     elim (not (in-flow s) && top-ends (s .indents .entries)) [
@@ -34,7 +35,7 @@ stack-bracket limits s =
       | false ↦ got s
     ]
 
--- '[' or '{'. 28: the 256th flow level
+-- K6: '[' or '{' saves a candidate and allows one. 28: the 256th flow level
 unfoldable pub fetch-flow-collection-start : Limits → Bool → State → Read News
 fetch-flow-collection-start limits sequence s₀ = do
   s ← stack-bracket limits (save-key s₀)
@@ -47,12 +48,12 @@ unfoldable pub closes-level : Bool → List Level → Bool
 closes-level sequence [] = false
 closes-level sequence (l ∷ ls) = pick sequence (l .sequence) (not (l .sequence))
 
--- an implicit pair ends at ',' or ']'
+-- K5: an implicit pair ends at ',' or ']'
 unfoldable pub implicit-open : List Level → Bool
 implicit-open [] = false
 implicit-open (l ∷ ls) = l .implicit
 
--- ']' or '}'. 47: not the latest open one's kind, or none is open
+-- K6: ']' or '}'. 47: not the latest open one's kind, or none is open
 unfoldable pub fetch-flow-collection-end : Bool → State → Read News
 fetch-flow-collection-end sequence s₀ = do
   _ ← need (closes-level sequence (s₀ .levels)) 47 (mark-of s₀)
@@ -61,12 +62,12 @@ fetch-flow-collection-end sequence s₀ = do
   emit (empty-if (implicit-open (s .levels)) FlowMappingEnd (mark-of s) ++ (put (l .token) ∷ []))
       (adjacent-here (at-place (l .place) false (allow false (with-keys (drop 1 (s .keys)) (with-levels (drop 1 (s .levels)) s)))))
 
--- a new entry of the level: no ':' and no '?' came
+-- a new entry of the level: no ':' and no '?' came in it
 unfoldable pub new-entry : List Level → List Level
 new-entry [] = []
 new-entry (l ∷ ls) = new-level (l .sequence) ∷ ls
 
--- ',' in flow
+-- K6: ',' in flow removes the candidate and allows one
 unfoldable pub fetch-flow-entry : State → Read News
 fetch-flow-entry s₀ = do
   s ← remove-key s₀

@@ -26,7 +26,7 @@ use Rattle.yaml_lexeme.specs.Directive.{scan-directive}
 use Rattle.yaml_scan.specs.Bracket.{fetch-flow-collection-end, fetch-flow-collection-start, fetch-flow-entry}
 use Rattle.yaml_scan.specs.Value.{fetch-block-entry, fetch-key, fetch-value, takes-colon}
 
--- scalars, tags, anchors and aliases save a candidate and forbid the next; a block scalar allows it
+-- K2: scalars, tags, anchors and aliases save a candidate and forbid the next; a block scalar allows it
 unfoldable pub fetch-plain-scalar : State → Read News
 fetch-plain-scalar s = emit-lexeme (scan-plain-scalar (in-flow s) (s .place)) false (allow false (save-key s))
 
@@ -35,6 +35,7 @@ fetch-flow-scalar single s = do
   l ← scan-flow-scalar (in-flow s) single (s .indents .indent) (s .place)
   emit (put (l .token) ∷ []) (adjacent-here (at-place (l .place) false (allow false (save-key s))))
 
+-- its indent is the block's own: the entries that K6 stacked go first
 unfoldable pub fetch-block-scalar : Bool → State → Read News
 fetch-block-scalar literal s = do
   let i = drop-non-ending (s .indents .indent) (s .indents .entries)
@@ -58,12 +59,14 @@ leave-blocks s = remove-key (with-indents (unroll-to 0 s .indents) s)
 abbrev pub all-ends : State → List Event
 all-ends s = block-ends (unroll-to 0 s .ended) (mark-of s)
 
+-- at column 0 and level 0; the directive's own break allows no simple key
 unfoldable pub fetch-directive : State → Read News
 fetch-directive s₀ = do
   s ← leave-blocks s₀
   l ← scan-directive (s .place)
   emit (all-ends s₀ ++ (put (l .token) ∷ [])) (at-place (l .place) true (allow false s))
 
+-- at column 0 and level 0, which it leaves as they are; a simple key is allowed behind it
 unfoldable pub fetch-byte-order-mark : State → Read News
 fetch-byte-order-mark s₀ = do
   s ← leave-blocks s₀
@@ -71,7 +74,7 @@ fetch-byte-order-mark s₀ = do
   emit (all-ends s₀ ++ (put (record { kind = ByteOrderMark; start = mark-of s; end = e }) ∷ []))
       (at-place (here e (drop 1 (rest-of s))) (s .leads) (allow true s))
 
--- what follows `...` on its line; 49: text
+-- K3: what follows `...` on its line; 49: text
 unfoldable pub after-marker : Bool → Place → Read Place
 after-marker starts p =
     elim starts [
@@ -101,7 +104,7 @@ fetch-stream-end s = do
   _ ← remove e (top-key (s .keys))
   got (ends-with (block-ends (unroll-to 0 s .ended) e ++ (put (empty-token StreamEnd e) ∷ [])))
 
--- the token whose first character is c, before the character n; 43: a character that starts no token
+-- K3: the token whose first character is c, before the character n; colon: whether K5 takes a ':' here. 43: a character that starts no token
 unfoldable pub indicator : Bool → Bool → ℕ → ℕ → Choice
 indicator flow colon c n =
     pick (eqb c '[') (Opens true)
@@ -123,7 +126,7 @@ indicator flow colon c n =
     (pick (among c (at-sign ∷ '`' ∷ '%' ∷ byte-order-mark ∷ [])) Stray
     AtPlain))))))))))))))))
 
--- the end; at column 0 document markers; at column 0 and level 0 '%' and BOM; then 42; then the indicator
+-- K3: the end; at column 0 document markers; at column 0 and level 0 '%' and BOM; then 42; then the indicator
 unfoldable pub choice : State → Choice
 choice s =
     let c = look (s .place) in
@@ -135,7 +138,7 @@ choice s =
     (pick (ltb (edge-of (mark-of s)) (s .indents .indent)) BelowIndent
     (indicator (in-flow s) (takes-colon s) c (peek (rest-of s) 1))))))
 
--- 42: a column below the indent (only in flow)
+-- K3: the token of a choice. 42: a column below the indent (only in flow)
 unfoldable pub fetch : Limits → Choice → State → Read News
 fetch limits AtEnd s = fetch-stream-end s
 fetch limits AtDirective s = fetch-directive s

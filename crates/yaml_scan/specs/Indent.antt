@@ -79,7 +79,7 @@ roll-at room flow m edge s =
       | false ↦ roll room m edge s
     ]
 
--- the entries that end no block go, as a block scalar does it
+-- the entries that end no block go, as unroll_non_block_indents has it for a block scalar
 unfoldable pub drop-non-ending : ℕ → List Entry → Indents
 drop-non-ending i [] = indents-of i []
 drop-non-ending i (e ∷ es) =

@@ -1,5 +1,5 @@
 -- K2: simple keys.
-use Prim.Native.Nat.{_+_, ℕ}
+use Prim.Native.Nat.{_+_}
 use mathlib.Core.Bool.{Bool, _||_, false, not, true}
 use mathlib.Core.List.{List, [], _∷_}
 use lib.Dec.{ltb}
@@ -9,7 +9,7 @@ use Rattle.yaml_scan.specs.declared.Candidate.{Candidate}
 use Rattle.yaml_scan.specs.declared.Candidate.the-variants.{Absent, Possible}
 use Rattle.yaml_text.specs.Refusal.{Read, _>>=_, got, need}
 
--- the candidate of the current level: one is kept per level, the current level's first
+-- the candidate of the current level: one is kept per level, the current level's first, so the list is never empty
 unfoldable pub top-key : List Candidate → Candidate
 top-key [] = Absent
 top-key (k ∷ ks) = k
@@ -22,7 +22,7 @@ unfoldable pub remove : Mark → Candidate → Read Candidate
 remove m Absent = got Absent
 remove m (Possible required n k) = need (not required) 41 m >>= λ _. got Absent
 
--- the mark's line is over, or 1,024 characters are
+-- the line of the candidate's mark k is over at the mark m, or 1,024 characters are
 unfoldable pub stale : Mark → Mark → Bool
 stale k m = ltb (k .line) (m .line) || ltb (k .index + 1024) (m .index)
 

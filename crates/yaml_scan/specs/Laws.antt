@@ -1,23 +1,17 @@
--- Laws of the run: one step; the characters that are scanned are those of the bytes; the rooms keep their lengths.
-use Prim.Native.Nat.{_-_, _/_, _≤_, suc, zero, ℕ, pred}
-use mathlib.Core.List.{List, [], _∷_}
-use mathlib.Core.Path.{_≡_, refl, ap}
+-- Laws of the run and the answer: one step; the rooms keep their lengths.
+use Prim.Native.Nat.{_-_, _/_, _≤_, suc, ℕ}
+use mathlib.Core.List.{List}
+use mathlib.Core.Path.{_≡_, refl}
 use native.Mathlib.Omega.{arith}
 use lib.Dec.{ltb}
 use lib.ListN.{length, length-append, length-replicate, replicate}
-use Rattle.yaml_text.specs.declared.Mark.{Mark}
-use Rattle.yaml_text.specs.Class.{peek}
-use Rattle.yaml_text.specs.Mark.{origin, over}
-use Rattle.yaml_lexeme.specs.Token.{Token, texts, records}
-use Rattle.yaml_text.specs.Refusal.{Read}
+use Rattle.yaml_text.specs.Mark.{origin}
+use Rattle.yaml_lexeme.specs.Token.{Token, texts}
+use Rattle.yaml_lexeme.specs.Held.{records}
 use Rattle.yaml_scan.specs.State.{Limits, State}
 use Rattle.yaml_scan.specs.Scan.{Outcome, Verdict, after-step, answer, answer-for, lent, no-verdict, outcome, refusal, run, scanned, settled, spent, step, stopped, Answer, blank-answer, filled}
 use borrow.Author.Tests.{ltb-false}
-use Rattle.yaml_text.specs.declared.Decoded.{Decoded}
-use Rattle.yaml_text.specs.declared.Decoded.the-variants.{Char, End, Ill}
-use Rattle.yaml_text.specs.Utf8.{charsAfter, first, more}
 use Rattle.yaml_text.specs.Test.{by-test}
-use Rattle.yaml_text.specs.All.{All, all-bind, all-need, holds, not-read}
 use Rattle.yaml_lexeme.specs.TokenLaws.{records-length}
 
 pub run-turned : (limits : Limits) (k : ℕ) (s : State) → run limits (suc k) s ≡ after-step (step limits s) (λ s'. run limits k s')

@@ -3,7 +3,8 @@ use Prim.Native.Nat.{ℕ}
 use Rattle.yaml_text.specs.Utf8.{byLen, bytesOf, encode, first, four, isScalar, isTail, lenOf, three, two}
 use Rattle.yaml_text.specs.Class.{among, asHex, isAlpha, isAnchor, isBlank, isBlankOrBreakz, isBom, isBreak, isBreakz, isDigit, isFlow, isHex, isNonSpace, isTag, isUri, isWord, isZ, none-left, same}
 use Rattle.yaml_text.specs.Mark.{break-length, ends-line, halfBreak, isMarker, over, skip-break, word}
-use Rattle.yaml_lexeme.specs.Token.{contents, contents-bytes, contents-words, kind-number, records, style-number, texts, token-words}
+use Rattle.yaml_lexeme.specs.Token.{kind-bytes, texts}
+use Rattle.yaml_lexeme.specs.Held.{laid, number-of, record-of, records, style-number, values-of}
 use Rattle.yaml_text.specs.Refusal.{_>>=_, before-read, need}
 use Rattle.yaml_text.specs.Decode.{decode}
 use Rattle.yaml_lexeme.specs.Gap.{blanks, blanks-and-comment, comment-after, gap-turn, isLeading, on-blank, on-hash, on-other, skip-gap, to-break}
@@ -24,8 +25,8 @@ use Rattle.yaml_scan.specs.Scan.{answer, answer-for, lent, noted, outcom
 
 unfoldable pub all-open : ℕ
 unfolding isTail lenOf isScalar two three four byLen first bytesOf encode among isZ isBreak isBreakz isBlank isBlankOrBreakz isFlow isBom isDigit isHex asHex
-    isAlpha isWord isUri isTag isNonSpace isAnchor same none-left halfBreak over ends-line break-length skip-break isMarker word kind-number style-number
-    contents contents-words contents-bytes token-words records texts _>>=_ need before-read on-blank on-hash on-other gap-turn isLeading skip-gap blanks
+    isAlpha isWord isUri isTag isNonSpace isAnchor same none-left halfBreak over ends-line break-length skip-break isMarker word kind-bytes texts
+    number-of style-number values-of record-of laid records _>>=_ need before-read on-blank on-hash on-other gap-turn isLeading skip-gap blanks
     to-break comment-after blanks-and-comment top-ends unroll stack drop-for roll roll-at drop-non-ending top-key remove stale lapse in-flow save-key
     remove-key lapse-key puts plain-stops glue plain-text scan-plain-scalar named hex-number escape-of escape folds-to quoted-blank broken quoted-break
     quoted-char quoted-line quoted-text quoted-turn quoted-run fits-after scan-flow-scalar increment-of isChomp chomping-of indicators largest

@@ -1,18 +1,15 @@
 -- The step, the run, and the whole answer for lent rooms.
-use Prim.Native.Nat.{_-_, _/_, pred, suc, zero, ℕ}
-use mathlib.Core.Bool.{false, not, true}
+use Prim.Native.Nat.{_-_, _/_, suc, zero, ℕ}
+use mathlib.Core.Bool.{false, true}
 use mathlib.Core.List.{List, [], _++_, _∷_}
 use lib.Dec.{eqb, ltb}
 use lib.ListN.{length, replicate}
-use Rattle.yaml_text.specs.declared.Decoded.{Decoded}
-use Rattle.yaml_text.specs.declared.Decoded.the-variants.{Char, End, Ill}
 use Rattle.yaml_text.specs.declared.Mark.{Mark}
 use Rattle.yaml_text.specs.Pick.{pick}
-use Rattle.yaml_text.specs.Utf8.{first}
-use Rattle.yaml_text.specs.Class.{isZ, peek}
-use Rattle.yaml_text.specs.Mark.{edge-of, here, origin, over}
-use Rattle.yaml_lexeme.specs.Token.{StreamStart, Token, empty-token, records, texts}
-use Rattle.yaml_text.specs.Refusal.{Read, _>>=_, got, need, refused}
+use Rattle.yaml_text.specs.Mark.{edge-of, here, origin}
+use Rattle.yaml_lexeme.specs.Token.{StreamStart, Token, empty-token, texts}
+use Rattle.yaml_lexeme.specs.Held.{records}
+use Rattle.yaml_text.specs.Refusal.{Read, _>>=_, got, refused}
 use Rattle.yaml_text.specs.Decode.{decode}
 use Rattle.yaml_lexeme.specs.declared.Before.the-variants.{AfterText, Leading}
 use Rattle.yaml_lexeme.specs.Gap.{skip-gap}
@@ -21,7 +18,7 @@ use Rattle.yaml_scan.specs.declared.Candidate.the-variants.{Absent}
 use Rattle.yaml_scan.specs.State.{Event, Limits, News, State, allow, at-place, block-ends, counting, ends-with, goes-on, in-flow, lapse-key, mark-of, preceded, put, put-before, rest-of, unroll-to, with-indents}
 use Rattle.yaml_scan.specs.Choice.{fetch-next}
 
--- the gap, then the lapse
+-- K1, K2: the gap, then the lapse
 unfoldable pub to-next-token : State → Read State
 to-next-token s = do
   g ← skip-gap (in-flow s) (s .allowed) (pick (s .leads) Leading AfterText) (mark-of s) (rest-of s)

@@ -31,7 +31,7 @@ pub record State : Type 0 where
   -- how many tokens were given so far, without those put in before a candidate
   pub count : ℕ
 
--- the limits of 01: bytes, flow levels, indent entries
+-- what 01 limits (1, 28, 48): bytes, flow levels, indent entries
 pub record Limits : Type 0 where
   pub bytes : ℕ
   pub levels : ℕ
@@ -46,6 +46,7 @@ pub data News : Type 0 where
   goes-on : List Event → State → News
   ends-with : List Event → News
 
+-- inside a bracket
 unfoldable pub in-flow : State → Bool
 in-flow s = elim (s .levels) [ [] ↦ false | l ∷ ls ↦ true ]
 
@@ -55,97 +56,36 @@ mark-of s = s .place .mark
 abbrev pub rest-of : State → List ℕ
 rest-of s = s .place .rest
 
+-- the state with one part changed
+
 abbrev pub at-place : Place → Bool → State → State
 at-place p leads s =
-    record {
-      place = p;
-      leads = leads;
-      allowed = s .allowed;
-      indents = s .indents;
-      keys = s .keys;
-      levels = s .levels;
-      adjacent = s .adjacent;
-      count = s .count;
-    }
+    record { place = p; leads = leads; allowed = s .allowed; indents = s .indents; keys = s .keys; levels = s .levels; adjacent = s .adjacent; count = s .count }
 
 abbrev pub allow : Bool → State → State
 allow b s =
-    record {
-      place = s .place;
-      leads = s .leads;
-      allowed = b;
-      indents = s .indents;
-      keys = s .keys;
-      levels = s .levels;
-      adjacent = s .adjacent;
-      count = s .count;
-    }
+    record { place = s .place; leads = s .leads; allowed = b; indents = s .indents; keys = s .keys; levels = s .levels; adjacent = s .adjacent; count = s .count }
 
 abbrev pub with-indents : Indents → State → State
 with-indents i s =
-    record {
-      place = s .place;
-      leads = s .leads;
-      allowed = s .allowed;
-      indents = i;
-      keys = s .keys;
-      levels = s .levels;
-      adjacent = s .adjacent;
-      count = s .count;
-    }
+    record { place = s .place; leads = s .leads; allowed = s .allowed; indents = i; keys = s .keys; levels = s .levels; adjacent = s .adjacent; count = s .count }
 
 abbrev pub with-keys : List Candidate → State → State
 with-keys ks s =
-    record {
-      place = s .place;
-      leads = s .leads;
-      allowed = s .allowed;
-      indents = s .indents;
-      keys = ks;
-      levels = s .levels;
-      adjacent = s .adjacent;
-      count = s .count;
-    }
+    record { place = s .place; leads = s .leads; allowed = s .allowed; indents = s .indents; keys = ks; levels = s .levels; adjacent = s .adjacent; count = s .count }
 
 abbrev pub with-levels : List Level → State → State
 with-levels ls s =
-    record {
-      place = s .place;
-      leads = s .leads;
-      allowed = s .allowed;
-      indents = s .indents;
-      keys = s .keys;
-      levels = ls;
-      adjacent = s .adjacent;
-      count = s .count;
-    }
+    record { place = s .place; leads = s .leads; allowed = s .allowed; indents = s .indents; keys = s .keys; levels = ls; adjacent = s .adjacent; count = s .count }
 
 -- ':' stands directly after what was read up to here (K5)
 abbrev pub adjacent-here : State → State
 adjacent-here s =
-    record {
-      place = s .place;
-      leads = s .leads;
-      allowed = s .allowed;
-      indents = s .indents;
-      keys = s .keys;
-      levels = s .levels;
-      adjacent = mark-of s .index + 1;
-      count = s .count;
-    }
+    record { place = s .place; leads = s .leads; allowed = s .allowed; indents = s .indents; keys = s .keys; levels = s .levels; adjacent = mark-of s .index + 1; count = s .count }
 
 abbrev pub counting : ℕ → State → State
 counting n s =
-    record {
-      place = s .place;
-      leads = s .leads;
-      allowed = s .allowed;
-      indents = s .indents;
-      keys = s .keys;
-      levels = s .levels;
-      adjacent = s .adjacent;
-      count = s .count + n;
-    }
+    record { place = s .place; leads = s .leads; allowed = s .allowed; indents = s .indents; keys = s .keys; levels = s .levels; adjacent = s .adjacent; count = s .count + n }
 
 -- K2: the candidate of this level, saved as save_simple_key does; required at the block's own column
 unfoldable pub save-key : State → State

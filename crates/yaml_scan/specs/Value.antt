@@ -20,10 +20,11 @@ use Rattle.yaml_scan.specs.State.{Limits, News, State, allow, at-place, 
 abbrev pub one-character : Kind → Place → Lexeme
 one-character k p = lexeme k (p .mark) (along (p .mark)) (skip-by 1 p)
 
+-- K4: rolling to the column of the mark m; 48 is here
 abbrev pub roll-state : Limits → Mark → State → Read Rolled
 roll-state limits m s = roll-at (limits .entries) (in-flow s) (mark-of s) (edge-of m) (s .indents)
 
--- '-'. 46: in flow, or no simple key is allowed
+-- K4: '-'. 46: in flow, or no simple key is allowed
 unfoldable pub fetch-block-entry : Limits → State → Read News
 fetch-block-entry limits s₀ = do
   _ ← need (not (in-flow s₀) && s₀ .allowed) 46 (mark-of s₀)
@@ -32,11 +33,12 @@ fetch-block-entry limits s₀ = do
   let l = one-character BlockEntry (s .place)
   emit (empty-if (r .starts) BlockSequenceStart (mark-of s) ++ (put (l .token) ∷ [])) (at-place (l .place) false (allow true s))
 
+-- '?' came in this entry
 unfoldable pub questioned : List Level → List Level
 questioned [] = []
 questioned (l ∷ ls) = record { sequence = l .sequence; colon = l .colon; question = true; implicit = l .implicit } ∷ ls
 
--- '?'. 46: at level 0 no simple key is allowed
+-- K4: '?'. 46: at level 0 no simple key is allowed
 unfoldable pub fetch-key : Limits → State → Read News
 fetch-key limits s₀ = do
   _ ← need (in-flow s₀ || s₀ .allowed) 46 (mark-of s₀)
@@ -46,17 +48,18 @@ fetch-key limits s₀ = do
   emit (empty-if (r .starts) BlockMappingStart (mark-of s) ++ (put (l .token) ∷ []))
       (at-place (l .place) false (allow (not (in-flow s)) (with-levels (questioned (s .levels)) s)))
 
--- before blank, break or end; in flow, before a flow indicator or directly after a quoted scalar's or closing bracket's span
+-- K5: before blank, break or end; in flow, before a flow indicator or directly after a quoted scalar's or closing bracket's span
 unfoldable pub takes-colon : State → Bool
 takes-colon s =
     let n = peek (rest-of s) 1 in
     isBlankOrBreakz n || (in-flow s && (isFlow n || eqb (s .adjacent) (mark-of s .index + 1)))
 
--- the first ':' of a sequence's entry, if no '?' came before it
+-- K5: the first ':' of a sequence's entry, if no '?' came before it
 unfoldable pub begins-pair : List Level → Bool
 begins-pair [] = false
 begins-pair (l ∷ ls) = l .sequence && not (l .colon) && not (l .question)
 
+-- ':' came in this entry
 unfoldable pub colon-seen : List Level → List Level
 colon-seen [] = []
 colon-seen (l ∷ ls) =
@@ -65,26 +68,26 @@ colon-seen (l ∷ ls) =
 abbrev pub kind-if : Bool → Kind → List Kind
 kind-if b k = pick b (k ∷ []) []
 
--- behind the ':'
-abbrev pub valued : Bool → Indents → Candidate → State → State
-valued allowed i k s =
+-- behind the ':', the candidate gone
+abbrev pub valued : Bool → Indents → State → State
+valued allowed i s =
     at-place (skip-by 1 (s .place)) false
-    (allow allowed (with-indents i (with-keys (set-key k (s .keys)) (with-levels (colon-seen (s .levels)) s))))
+    (allow allowed (with-indents i (with-keys (set-key Absent (s .keys)) (with-levels (colon-seen (s .levels)) s))))
 
--- with a candidate, which is used up: an empty Key goes in before it, at its first character
+-- K5: with a candidate, which is used up: an empty Key goes in before it, at its first character
 unfoldable pub value-with : Limits → ℕ → Mark → State → Read News
 value-with limits n k s = do
   r ← roll-state limits k s
   let kinds = kind-if (begins-pair (s .levels)) FlowMappingStart ++ kind-if (r .starts) BlockMappingStart ++ (Key ∷ [])
-  emit (put-before n (map (λ (kind : Kind). empty-token kind k) kinds) ∷ put (one-character Value (s .place) .token) ∷ []) (valued false (r .indents) Absent s)
+  emit (put-before n (map (λ (kind : Kind). empty-token kind k) kinds) ∷ put (one-character Value (s .place) .token) ∷ []) (valued false (r .indents) s)
 
--- without: 46: at level 0 a simple key must be allowed
+-- K5: without. 46: at level 0 a simple key must be allowed
 unfoldable pub value-without : Limits → State → Read News
 value-without limits s = do
   _ ← need (in-flow s || s .allowed) 46 (mark-of s)
   r ← roll-state limits (mark-of s) s
   let starts = empty-if (begins-pair (s .levels)) FlowMappingStart (mark-of s) ++ empty-if (r .starts) BlockMappingStart (mark-of s)
-  emit (starts ++ (put (one-character Value (s .place) .token) ∷ [])) (valued (not (in-flow s)) (r .indents) Absent s)
+  emit (starts ++ (put (one-character Value (s .place) .token) ∷ [])) (valued (not (in-flow s)) (r .indents) s)
 
 unfoldable pub value-by : Limits → Candidate → State → Read News
 value-by limits Absent s = value-without limits s

@@ -1,4 +1,5 @@
--- The tests of char_traits, on code points. 0 stands for the end of the text: no text that is scanned holds it (refusal 3).
+-- The tests of char_traits, on code points, each with its section of YAML 1.2.2.
+-- 0 stands for the end of the text: no text that is scanned holds it (refusal 3).
 use Prim.Native.Nat.{_-_, ℕ}
 use mathlib.Core.Bool.{Bool, _&&_, _||_, false, not, true}
 use mathlib.Core.List.{List, [], _∷_}
@@ -20,25 +21,29 @@ among c (x ∷ xs) = eqb c x || among c xs
 unfoldable pub isZ : ℕ → Bool
 isZ c = eqb c 0
 
+-- 5.4
 unfoldable pub isBreak : ℕ → Bool
 isBreak c = eqb c line-feed || eqb c carriage-return
 
 unfoldable pub isBreakz : ℕ → Bool
 isBreakz c = isBreak c || isZ c
 
+-- 5.5
 unfoldable pub isBlank : ℕ → Bool
 isBlank c = eqb c space || eqb c tab
 
 unfoldable pub isBlankOrBreakz : ℕ → Bool
 isBlankOrBreakz c = isBlank c || isBreakz c
 
--- , [ ] { }
+-- 5.3: , [ ] { }
 unfoldable pub isFlow : ℕ → Bool
 isFlow c = among c (comma ∷ '[' ∷ ']' ∷ open-brace ∷ close-brace ∷ [])
 
+-- 5.2
 unfoldable pub isBom : ℕ → Bool
 isBom c = eqb c byte-order-mark
 
+-- 5.6, to isTag
 unfoldable pub isDigit : ℕ → Bool
 isDigit c = leb 48 c && leb c 57
 
@@ -57,7 +62,7 @@ isAlpha c = isDigit c || (leb 65 c && leb c 90) || (leb 97 c && leb c 122) || am
 unfoldable pub isWord : ℕ → Bool
 isWord c = isAlpha c && not (eqb c 95)
 
--- word characters and # ; / ? : @ & = + $ , _ . ! ~ * ' ( ) [ ] %
+-- word characters and # ; / ? : @ & = + $ , _ . ! ~ * ' ( ) [ ] %, which begins an escape
 unfoldable pub isUri : ℕ → Bool
 isUri c =
     isWord c
@@ -67,10 +72,11 @@ isUri c =
 unfoldable pub isTag : ℕ → Bool
 isTag c = isUri c && not (isFlow c) && not (eqb c '!')
 
--- neither blank, break, end nor byte order mark: a character of a directive's words and of anchors
+-- 5.5: neither blank, break, end nor byte order mark. A character of a directive's words
 unfoldable pub isNonSpace : ℕ → Bool
 isNonSpace c = not (isBlankOrBreakz c) && not (isBom c)
 
+-- 6.9.2
 unfoldable pub isAnchor : ℕ → Bool
 isAnchor c = isNonSpace c && not (isFlow c)
 

@@ -10,14 +10,14 @@ use Rattle.yaml_text.specs.Class.{isZ, peek}
 use Rattle.yaml_text.specs.Mark.{over}
 use Rattle.yaml_text.specs.Refusal.{Read, _>>=_, got, need, refused}
 
--- 2 and 3: ill-formed UTF-8 and NUL, whichever stands earlier
+-- 2 and 3: ill-formed UTF-8 and NUL, whichever stands earlier. (At a byte something stands, so it is never `End`.)
 abbrev pub decoded-char : Decoded → Mark → (ℕ → ℕ → Read (List ℕ)) → Read (List ℕ)
 decoded-char (Char c n) m go =
     need (not (isZ c)) 3 m >>= λ _. go c (pred n) >>= λ cs. got (c ∷ cs)
 decoded-char Ill m go = refused 2 m
 decoded-char End m go = refused 2 m
 
--- the characters of the bytes; k bytes are passed over first
+-- the characters of the bytes, from the mark m on; k bytes are passed over first. Each character but a break adds 1 to col, a BOM too
 unfoldable pub decode : ℕ → Mark → List ℕ → Read (List ℕ)
 decode k m [] = got []
 decode zero m (a ∷ t) = decoded-char (first (a ∷ t)) m (λ c n. decode n (over m c (peek t 0)) t)

@@ -1,4 +1,4 @@
--- UTF-8 as RFC 3629 has it: what character a list of bytes begins with, the characters of a list, the bytes of a character.
+-- UTF-8 (RFC 3629, 3 and 4): what character a list of bytes begins with, the characters of a list, the bytes of a character.
 use Prim.Native.Nat.{_%_, _*_, _+_, _/_, pred, suc, zero, ℕ}
 use mathlib.Core.Bool.{Bool, _&&_, _||_, false, true}
 use mathlib.Core.List.{List, [], _++_, _∷_}
@@ -8,15 +8,15 @@ use Rattle.yaml_text.specs.declared.Decoded.{Decoded}
 use Rattle.yaml_text.specs.declared.Decoded.the-variants.{Char, End, Ill}
 use Rattle.yaml_text.specs.Pick.{pick}
 
--- b is a byte of the form 10xxxxxx
+-- b is a byte of the form 10xxxxxx (UTF8-tail)
 unfoldable pub isTail : ℕ → Bool
 isTail b = leb 128 b && ltb b 192
 
--- how many bytes the character of the lead byte b takes, by its leading one bits; 0: b leads none
+-- how many bytes the character of the lead byte b takes, by its leading one bits: 0xxxxxxx, 110xxxxx, 1110xxxx, 11110xxx; 0: b leads none
 unfoldable pub lenOf : ℕ → ℕ
 lenOf b = pick (ltb b 128) 1 (pick (ltb b 192) 0 (pick (ltb b 224) 2 (pick (ltb b 240) 3 (pick (ltb b 248) 4 0))))
 
--- c is a code point that is no surrogate and that no shorter form has: from lo up
+-- c is a scalar value from lo up: no surrogate, none above 0x10FFFF; below lo a shorter form has it
 unfoldable pub isScalar : ℕ → ℕ → Bool
 isScalar lo c = leb lo c && ((ltb c 0xd800 || ltb 0xdfff c) && ltb c 0x110000)
 
@@ -24,7 +24,7 @@ abbrev pub charIf : Bool → ℕ → ℕ → Decoded
 charIf true c n = Char c n
 charIf false c n = Ill
 
--- a byte past the end counts as 0, which is no tail
+-- the characters of two, three and four bytes; a byte past the end counts as 0, which is no tail
 unfoldable pub two : ℕ → ℕ → Decoded
 two a b = let v = a % 32 * 64 + b % 64 in charIf (isTail b && isScalar 0x80 v) v 2
 
@@ -63,7 +63,7 @@ charsAfter (suc k) (a ∷ t) = charsAfter k t
 abbrev pub chars : List ℕ → List ℕ
 chars l = charsAfter 0 l
 
--- the bytes of a character
+-- the bytes of a character (the table of section 3)
 unfoldable pub bytesOf : ℕ → List ℕ
 bytesOf c =
     pick (ltb c 0x80) (c ∷ [])
