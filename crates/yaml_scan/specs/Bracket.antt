@@ -12,7 +12,8 @@ use Rattle.yaml_lexeme.specs.Gap.{blanks-and-comment}
 use Rattle.yaml_scan.specs.Indent.{stack, top-ends}
 use Rattle.yaml_scan.specs.declared.Candidate.the-variants.{Absent}
 use Rattle.yaml_scan.specs.declared.Level.{Level}
-use Rattle.yaml_scan.specs.State.{Limits, News, State, adjacent-here, allow, at-place, emit, emit-lexeme, empty-if, in-flow, mark-of, put, remove-key, save-key, with-indents, with-keys, with-levels}
+use Rattle.yaml_scan.specs.declared.Limits.{Limits}
+use Rattle.yaml_scan.specs.State.{News, State, adjacent-here, allow, at-place, emit, emit-lexeme, empty-if, in-flow, mark-of, put, remove-key, save-key, with-indents, with-keys, with-levels}
 
 -- 28
 unfoldable pub has-level-room : Limits → State → Bool

@@ -16,7 +16,8 @@ use Rattle.yaml_scan.specs.Indent.{stack, top-ends}
 use Rattle.yaml_scan.specs.declared.Candidate.{Candidate}
 use Rattle.yaml_scan.specs.declared.Candidate.the-variants.{Possible, Absent}
 use Rattle.yaml_scan.specs.Keys.{lapse, remove, top-key}
-use Rattle.yaml_scan.specs.State.{Event, Limits, News, State, counting, ends-with, goes-on, in-flow, lapse-key, mark-of, preceded, put, remove-key, rest-of, save-key, unroll-to, with-indents}
+use Rattle.yaml_scan.specs.declared.Limits.{Limits}
+use Rattle.yaml_scan.specs.State.{Event, News, State, counting, ends-with, goes-on, in-flow, lapse-key, mark-of, preceded, put, remove-key, rest-of, save-key, unroll-to, with-indents}
 use Rattle.yaml_scan.specs.Bracket.{fetch-flow-collection-end, fetch-flow-collection-start, fetch-flow-entry, scan-bracket, stack-bracket}
 use Rattle.yaml_scan.specs.Value.{fetch-block-entry, fetch-key, roll-state, value-by, value-with, value-without}
 use Rattle.yaml_scan.specs.declared.Choice.{Choice}

@@ -16,7 +16,8 @@ use Rattle.yaml_text.specs.Refusal.{Read, _>>=_, got, need, refused}
 use Rattle.yaml_lexeme.specs.Gap.{blanks-and-comment}
 use Rattle.yaml_scan.specs.Indent.{drop-non-ending}
 use Rattle.yaml_scan.specs.Keys.{remove, top-key}
-use Rattle.yaml_scan.specs.State.{Event, Limits, News, State, adjacent-here, allow, at-place, block-ends, emit, emit-lexeme, ends-with, in-flow, mark-of, put, remove-key, rest-of, save-key, unroll-to, with-indents}
+use Rattle.yaml_scan.specs.declared.Limits.{Limits}
+use Rattle.yaml_scan.specs.State.{Event, News, State, adjacent-here, allow, at-place, block-ends, emit, emit-lexeme, ends-with, in-flow, mark-of, put, remove-key, rest-of, save-key, unroll-to, with-indents}
 use Rattle.yaml_lexeme.specs.Plain.{scan-plain-scalar}
 use Rattle.yaml_lexeme.specs.Quoted.{scan-flow-scalar}
 use Rattle.yaml_lexeme.specs.Block.{scan-block-scalar}

@@ -8,7 +8,8 @@ use lib.ListN.{length, length-append, length-replicate, replicate}
 use Rattle.yaml_text.specs.Mark.{origin}
 use Rattle.yaml_lexeme.specs.Token.{Token, texts}
 use Rattle.yaml_lexeme.specs.Held.{records}
-use Rattle.yaml_scan.specs.State.{Limits, State}
+use Rattle.yaml_scan.specs.declared.Limits.{Limits}
+use Rattle.yaml_scan.specs.State.{State}
 use Rattle.yaml_scan.specs.Scan.{Outcome, Verdict, after-step, answer, answer-for, lent, no-verdict, outcome, refusal, run, scanned, settled, spent, step, stopped, Answer, blank-answer, filled}
 use borrow.Author.Tests.{ltb-false}
 use Rattle.yaml_text.specs.Test.{by-test}

@@ -15,7 +15,8 @@ use Rattle.yaml_lexeme.specs.declared.Before.the-variants.{AfterText, Leading}
 use Rattle.yaml_lexeme.specs.Gap.{skip-gap}
 use Rattle.yaml_scan.specs.Indent.{Unrolled, indents-of}
 use Rattle.yaml_scan.specs.declared.Candidate.the-variants.{Absent}
-use Rattle.yaml_scan.specs.State.{Event, Limits, News, State, allow, at-place, block-ends, counting, ends-with, goes-on, in-flow, lapse-key, mark-of, preceded, put, put-before, rest-of, unroll-to, with-indents}
+use Rattle.yaml_scan.specs.declared.Limits.{Limits}
+use Rattle.yaml_scan.specs.State.{Event, News, State, allow, at-place, block-ends, counting, ends-with, goes-on, in-flow, lapse-key, mark-of, preceded, put, put-before, rest-of, unroll-to, with-indents}
 use Rattle.yaml_scan.specs.Choice.{fetch-next}
 
 -- K1, K2: the gap, then the lapse

@@ -31,12 +31,6 @@ pub record State : Type 0 where
   -- how many tokens were given so far, without those put in before a candidate
   pub count : ℕ
 
--- what 01 limits (1, 28, 48): bytes, flow levels, indent entries
-pub record Limits : Type 0 where
-  pub bytes : ℕ
-  pub levels : ℕ
-  pub entries : ℕ
-
 -- what a step says: a token comes next, or these tokens go in before the token of that number
 pub data Event : Type 0 where
   put : Token → Event

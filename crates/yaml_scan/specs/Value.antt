@@ -14,7 +14,8 @@ use Rattle.yaml_scan.specs.declared.Candidate.{Candidate}
 use Rattle.yaml_scan.specs.declared.Candidate.the-variants.{Possible, Absent}
 use Rattle.yaml_scan.specs.Keys.{set-key, top-key}
 use Rattle.yaml_scan.specs.declared.Level.{Level}
-use Rattle.yaml_scan.specs.State.{Limits, News, State, allow, at-place, emit, empty-if, in-flow, mark-of, put, put-before, remove-key, rest-of, with-indents, with-keys, with-levels}
+use Rattle.yaml_scan.specs.declared.Limits.{Limits}
+use Rattle.yaml_scan.specs.State.{News, State, allow, at-place, emit, empty-if, in-flow, mark-of, put, put-before, remove-key, rest-of, with-indents, with-keys, with-levels}
 
 -- the one character here
 abbrev pub one-character : Kind → Place → Lexeme

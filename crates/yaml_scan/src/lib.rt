@@ -1,6 +1,13 @@
 // The types of the scan, which the definition in specs/ and the code above it share. No code.
 use yaml_text::Mark;
 
+// What 01 limits (1, 28, 48): bytes, flow levels, indent entries.
+pub struct Limits {
+    pub bytes: usize,
+    pub levels: usize,
+    pub entries: usize,
+}
+
 // A simple key's candidate (K2).
 pub enum Candidate {
     Absent,
