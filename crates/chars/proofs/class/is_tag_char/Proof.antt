@@ -1,0 +1,18 @@
+-- `chars::class::is_tag_char` meets its contract: it is the definition, test by test.
+use borrow.Author.Needs.{needs}
+use Rattle.yaml_text.specs.Class.{isTag}
+use Rattle.chars.proofs.class.is_tag_char.Statement.{statement}
+use Rattle.chars.proofs.class.is_tag_char.Tie as tie
+
+is-uri-char-requires : tie.Need-is-uri-char-requires
+is-uri-char-requires c κs = search needs
+
+is-flow-requires : tie.Need-is-flow-requires
+is-flow-requires c κs = search needs
+
+returns : tie.Need-returns
+unfolding isTag
+returns c = cc
+
+pub is-tag-char-spec : {M : Type 1} → statement M
+is-tag-char-spec = tie.close (tie.spec is-uri-char-requires is-flow-requires returns)

@@ -1,0 +1,8 @@
+pub mod Ascii
+pub mod Bytes
+pub mod Reach
+pub mod View
+pub mod Places
+pub mod Lines
+pub mod Encoded
+pub mod Counted
