@@ -9,5 +9,6 @@ pub mod Test
 pub mod All
 pub mod Utf8Laws
 pub mod ByteLaws
+pub mod Utf8Both
 pub mod MarkLaws
 pub mod DecodeLaws

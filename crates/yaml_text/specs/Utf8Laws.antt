@@ -179,7 +179,7 @@ tail-inv : (b : ℕ) → isTail b ≡ true → (128 ≤ b) × (b < 192)
 unfolding isTail
 tail-inv b e = let h = both-inv (leb 128 b) (ltb b 192) e in (leb-true 128 b (h .0), ltb-true b 192 (h .1))
 
-scalar-inv : (lo c : ℕ) → isScalar lo c ≡ true → (lo ≤ c) × (c < 0x110000)
+pub scalar-inv : (lo c : ℕ) → isScalar lo c ≡ true → (lo ≤ c) × (c < 0x110000)
 unfolding isScalar
 scalar-inv lo c e =
     let h = both-inv (leb lo c) (((ltb c 0xd800 || ltb 0xdfff c) && (ltb c 0x110000))) e in
