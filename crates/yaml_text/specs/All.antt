@@ -39,3 +39,12 @@ all-got {P} {a = x} h e = by-got (rw e at h)
   where
     by-got : All _ P (got x) → P x
     by-got (holds k) = k
+
+-- where it is known what is read, go on with that
+pub all-is : {A B : Type 0} {Q : B → Type 0} {r : Read A} {x : A} (f : A → Read B) → All A (λ a. a ≡ x) r → All B Q (f x) → All B Q (r >>= f)
+all-is f h k = all-bind f h (λ a e. rw e k)
+
+-- or all but a part of it
+pub all-some : {A B I : Type 0} {Q : B → Type 0} {r : Read A} (f : A → Read B) (x : I → A) → All A (λ a. (i : I) × (a ≡ x i)) r → ((i : I) → All B Q (f (x i)))
+    → All B Q (r >>= f)
+all-some f x h k = all-bind f h (λ a e. rw (e .1) (k (e .0)))

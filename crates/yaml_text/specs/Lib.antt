@@ -12,3 +12,4 @@ pub mod ByteLaws
 pub mod Utf8Both
 pub mod MarkLaws
 pub mod DecodeLaws
+pub mod PlaceLaws
