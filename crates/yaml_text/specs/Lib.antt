@@ -7,6 +7,7 @@ pub mod Refusal
 pub mod Decode
 pub mod Test
 pub mod All
+pub mod Utf8Examples
 pub mod Utf8Laws
 pub mod ByteLaws
 pub mod Utf8Both
