@@ -11,3 +11,6 @@ pub mod Directive
 pub mod TokenLaws
 pub mod Turns
 pub mod Fits
+pub mod BlockFits
+pub mod EscapeFits
+pub mod TagFits

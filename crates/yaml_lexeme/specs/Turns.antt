@@ -1,18 +1,25 @@
 -- One turn of each loop over text: one unfolding of its definition.
-use Prim.Native.Nat.{_+_, suc, ℕ}
+use Prim.Native.Nat.{_*_, _+_, _-_, max, suc, ℕ}
 use mathlib.Core.Bool.{Bool, _&&_, _||_, false, true}
 use mathlib.Core.List.{List, [], _∷_}
 use mathlib.Core.Path.{_≡_, refl}
 use lib.Dec.{eqb, ltb}
+use lib.ListN.{drop}
 use Rattle.yaml_text.specs.declared.Mark.{Mark}
 use Rattle.yaml_lexeme.specs.declared.Before.{Before}
-use Rattle.yaml_text.specs.Char.{space}
-use Rattle.yaml_text.specs.Class.{isBlank, isBreak, peek}
-use Rattle.yaml_text.specs.Mark.{along, ends-line, here, nothing-at, over}
+use Rattle.yaml_text.specs.Pick.{pick}
+use Rattle.yaml_text.specs.Char.{'%', '0', space}
+use Rattle.yaml_text.specs.Utf8.{isTail}
+use Rattle.yaml_text.specs.Class.{asHex, isBlank, isBreak, isDigit, isHex, isNonSpace, peek}
+use Rattle.yaml_text.specs.Mark.{along, before-run, ends-line, here, nothing-at, over}
+use Rattle.yaml_text.specs.Refusal.{_>>=_, before-read, got, need, refused}
 use Rattle.yaml_lexeme.specs.Gap.{after-gap-turn, blanks, gap-turn, skip-gap, to-break, isLeading}
 use Rattle.yaml_lexeme.specs.Plain.{glue, plain-stops, plain-text}
 use Rattle.yaml_lexeme.specs.Quoted.{Mode, Quote, after-turn, quoted-run, quoted-turn}
-use Rattle.yaml_lexeme.specs.Block.{Layout, Line, after-content, content, content-turn, margin, content-end}
+use Rattle.yaml_lexeme.specs.Block.{Layout, Line, after-content, content, content-end, content-turn, largest, margin}
+use Rattle.yaml_lexeme.specs.Escape.{hex-number}
+use Rattle.yaml_lexeme.specs.Tag.{octet, percent, trailing, uri-run}
+use Rattle.yaml_lexeme.specs.Directive.{parameters, version-digits}
 
 pub gap-turned : (flow allowed : Bool) (b : Before) (m : Mark) (c : ℕ) (cs : List ℕ)
     → skip-gap flow allowed b m (c ∷ cs)
@@ -73,3 +80,80 @@ pub margin-stop : (column n : ℕ) (m : Mark) (c : ℕ) (cs : List ℕ) → ((eq
     → margin column n m (c ∷ cs) ≡ record { breaks = n; place = here m (c ∷ cs) }
 unfolding margin
 margin-stop column n m c cs e = rw (e, margin)
+
+pub largest-space : (most : ℕ) (m : Mark) (c : ℕ) (cs : List ℕ) → eqb c space ≡ true → largest most m (c ∷ cs) ≡ largest most (along m) cs
+unfolding largest
+largest-space most m c cs e = rw (e, largest)
+
+pub largest-break : (most : ℕ) (m : Mark) (c : ℕ) (cs : List ℕ) → eqb c space ≡ false → isBreak c ≡ true
+    → largest most m (c ∷ cs) ≡ largest (max most (m .col)) (over m c (peek cs 0)) cs
+unfolding largest
+largest-break most m c cs e f = rw (e, f, largest)
+
+pub largest-stop : (most : ℕ) (m : Mark) (c : ℕ) (cs : List ℕ) → eqb c space ≡ false → isBreak c ≡ false → largest most m (c ∷ cs) ≡ max most (m .col)
+unfolding largest
+largest-stop most m c cs e f = rw (e, f, largest)
+
+pub hex-more : (start : Mark) (n v : ℕ) (cs : List ℕ) → isHex (peek cs 0) ≡ true
+    → hex-number start (suc n) v cs ≡ hex-number start n (v * 16 + asHex (peek cs 0)) (drop 1 cs)
+unfolding hex-number
+hex-more start n v cs e = rw (e, hex-number)
+
+pub hex-missing : (start : Mark) (n v : ℕ) (cs : List ℕ) → isHex (peek cs 0) ≡ false → hex-number start (suc n) v cs ≡ refused 38 start
+unfolding hex-number
+hex-missing start n v cs e = rw (e, hex-number)
+
+pub trailing-turned : (start : Mark) (n : ℕ) (cs : List ℕ)
+    → trailing start (suc n) cs
+    ≡ octet start cs >>= λ b. need (isTail b) 23 start >>= λ _. trailing start n (drop 3 cs) >>= λ bs. got (b ∷ bs)
+unfolding trailing
+trailing-turned start n cs = refl
+
+pub uri-stop : (p : ℕ → Bool) (start m : Mark) (c : ℕ) (cs : List ℕ) → p c ≡ false → uri-run p start 0 m (c ∷ cs) ≡ got (nothing-at (here m (c ∷ cs)))
+unfolding uri-run
+uri-stop p start m c cs e = rw (e, uri-run)
+
+pub uri-more : (p : ℕ → Bool) (start m : Mark) (c : ℕ) (cs : List ℕ) → p c ≡ true → eqb c '%' ≡ false
+    → uri-run p start 0 m (c ∷ cs) ≡ before-read (c ∷ []) (uri-run p start 0 (along m) cs)
+unfolding uri-run
+uri-more p start m c cs e f = rw (e, f, uri-run)
+
+pub uri-escape : (p : ℕ → Bool) (start m : Mark) (c : ℕ) (cs : List ℕ) → p c ≡ true → eqb c '%' ≡ true
+    → uri-run p start 0 m (c ∷ cs)
+    ≡ percent start (c ∷ cs) >>= λ e. before-read (e .char ∷ []) (uri-run p start (e .took) (along m) cs)
+unfolding uri-run
+uri-escape p start m c cs e f = rw (e, f, uri-run)
+
+pub uri-passed : (p : ℕ → Bool) (start : Mark) (k : ℕ) (m : Mark) (c : ℕ) (cs : List ℕ) → uri-run p start (suc k) m (c ∷ cs) ≡ uri-run p start k (along m) cs
+unfolding uri-run
+uri-passed p start k m c cs = refl
+
+pub digits-more : (start : Mark) (n v : ℕ) (m : Mark) (c : ℕ) (cs : List ℕ) → isDigit c ≡ true → ltb n 9 ≡ true
+    → version-digits start n v m (c ∷ cs) ≡ version-digits start (suc n) (v * 10 + (c - '0')) (along m) cs
+unfolding version-digits
+digits-more start n v m c cs e f = rw (e, f, version-digits)
+
+pub digits-long : (start : Mark) (n v : ℕ) (m : Mark) (c : ℕ) (cs : List ℕ) → isDigit c ≡ true → ltb n 9 ≡ false
+    → version-digits start n v m (c ∷ cs) ≡ refused 14 start
+unfolding version-digits
+digits-long start n v m c cs e f = rw (e, f, version-digits)
+
+pub digits-stop : (start : Mark) (n v : ℕ) (m : Mark) (c : ℕ) (cs : List ℕ) → isDigit c ≡ false
+    → version-digits start n v m (c ∷ cs) ≡ got (record { value = v; place = here m (c ∷ cs) })
+unfolding version-digits
+digits-stop start n v m c cs e = rw (e, version-digits)
+
+pub parameters-blank : (some blank : Bool) (m : Mark) (c : ℕ) (cs : List ℕ) → isBlank c ≡ true
+    → parameters some blank m (c ∷ cs) ≡ parameters some true (along m) cs
+unfolding parameters
+parameters-blank some blank m c cs e = rw (e, parameters)
+
+pub parameters-more : (some blank : Bool) (m : Mark) (c : ℕ) (cs : List ℕ) → isBlank c ≡ false → isNonSpace c ≡ true
+    → parameters some blank m (c ∷ cs) ≡ before-run (pick (some && blank) (space ∷ c ∷ []) (c ∷ [])) (parameters true false (along m) cs)
+unfolding parameters
+parameters-more some blank m c cs e f = rw (e, f, parameters)
+
+pub parameters-stop : (some blank : Bool) (m : Mark) (c : ℕ) (cs : List ℕ) → isBlank c ≡ false → isNonSpace c ≡ false
+    → parameters some blank m (c ∷ cs) ≡ nothing-at (here m (c ∷ cs))
+unfolding parameters
+parameters-stop some blank m c cs e f = rw (e, f, parameters)

@@ -7,6 +7,10 @@ pub mod Choice
 pub mod Scan
 pub mod Open
 pub mod Examples
+pub mod Candidates
+pub mod Fetches
+pub mod ChoiceLaws
+pub mod Runs
 pub mod Budget
 pub mod Laws
 pub mod Sink

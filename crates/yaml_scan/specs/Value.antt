@@ -69,6 +69,10 @@ colon-seen (l ∷ ls) =
 abbrev pub kind-if : Bool → Kind → List Kind
 kind-if b k = pick b (k ∷ []) []
 
+-- K5: what goes in before a candidate: FlowMappingStart for a pair, BlockMappingStart where its column rolls, Key
+abbrev pub before-key : Bool → Bool → List Kind
+before-key pair starts = kind-if pair FlowMappingStart ++ kind-if starts BlockMappingStart ++ (Key ∷ [])
+
 -- behind the ':', the candidate gone
 abbrev pub valued : Bool → Indents → State → State
 valued allowed i s =
@@ -79,8 +83,8 @@ valued allowed i s =
 unfoldable pub value-with : Limits → ℕ → Mark → State → Read News
 value-with limits n k s = do
   r ← roll-state limits k s
-  let kinds = kind-if (begins-pair (s .levels)) FlowMappingStart ++ kind-if (r .starts) BlockMappingStart ++ (Key ∷ [])
-  emit (put-before n (map (λ (kind : Kind). empty-token kind k) kinds) ∷ put (one-character Value (s .place) .token) ∷ []) (valued false (r .indents) s)
+  let ts = map (λ (kind : Kind). empty-token kind k) (before-key (begins-pair (s .levels)) (r .starts))
+  emit (put-before n ts ∷ put (one-character Value (s .place) .token) ∷ []) (valued false (r .indents) s)
 
 -- K5: without. 46: at level 0 a simple key must be allowed
 unfoldable pub value-without : Limits → State → Read News

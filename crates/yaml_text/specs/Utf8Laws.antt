@@ -11,6 +11,7 @@ use borrow.Author.Tests.{le-ltb, leb-true, lt-ltb, ltb-false, ltb-true}
 use Rattle.yaml_text.specs.declared.Decoded.{Decoded}
 use Rattle.yaml_text.specs.declared.Decoded.the-variants.{Char, End, Ill}
 use Rattle.yaml_text.specs.Pick.{pick}
+use Rattle.yaml_text.specs.Test.{both-true}
 use Rattle.yaml_text.specs.Utf8.{byLen, bytesOf, charIf, chars, charsAfter, first, four, isScalar, isTail, lenOf, more, three, two}
 
 pub first-past : (s : List ℕ) (at : ℕ) → length s ≤ at → first (drop at s) ≡ End
@@ -171,19 +172,15 @@ char-inv : (p : Bool) (v m c n : ℕ) → charIf p v m ≡ Char c n → (p ≡ t
 char-inv true v m c n e = (refl, cc, cc)
 char-inv false v m c n e = never c n e
 
-both-inv : (p q : Bool) → (p && q) ≡ true → (p ≡ true) × (q ≡ true)
-both-inv true q e = (refl, e)
-both-inv false q e = let z : _≡_ {A = ℕ} 0 1 = cc in absurd (omega arith)
-
 tail-inv : (b : ℕ) → isTail b ≡ true → (128 ≤ b) × (b < 192)
 unfolding isTail
-tail-inv b e = let h = both-inv (leb 128 b) (ltb b 192) e in (leb-true 128 b (h .0), ltb-true b 192 (h .1))
+tail-inv b e = let h = both-true (leb 128 b) (ltb b 192) e in (leb-true 128 b (h .0), ltb-true b 192 (h .1))
 
-scalar-inv : (lo c : ℕ) → isScalar lo c ≡ true → (lo ≤ c) × (c < 0x110000)
+pub scalar-inv : (lo c : ℕ) → isScalar lo c ≡ true → (lo ≤ c) × (c < 0x110000)
 unfolding isScalar
 scalar-inv lo c e =
-    let h = both-inv (leb lo c) (((ltb c 0xd800 || ltb 0xdfff c) && (ltb c 0x110000))) e in
-    (leb-true lo c (h .0), ltb-true c 0x110000 (both-inv (ltb c 0xd800 || ltb 0xdfff c) (ltb c 0x110000) (h .1) .1))
+    let h = both-true (leb lo c) (((ltb c 0xd800 || ltb 0xdfff c) && (ltb c 0x110000))) e in
+    (leb-true lo c (h .0), ltb-true c 0x110000 (both-true (ltb c 0xd800 || ltb 0xdfff c) (ltb c 0x110000) (h .1) .1))
 
 -- what the length says of the lead byte
 abbrev Lead : ℕ → ℕ → Type 0
@@ -246,7 +243,7 @@ unfolding two
 two-inv a b c n h e =
     let v = a % 32 * 64 + b % 64 in
     let i = char-inv (((isTail b) && (isScalar 0x80 v))) v 2 c n e in
-    let j = both-inv (isTail b) (isScalar 0x80 v) (i .0) in
+    let j = both-true (isTail b) (isScalar 0x80 v) (i .0) in
     let k = tail-inv b (j .0) in
     let s = scalar-inv 0x80 v (j .1) in
     (sym (i .2), bytes2 a b c (h .0) (h .1) (k .0) (k .1) (i .1) (rw (i .1) at (s .0)))
@@ -256,8 +253,8 @@ unfolding three
 three-inv a b c v n h e =
     let w = a % 16 * 4096 + b % 64 * 64 + c % 64 in
     let i = char-inv (((isTail b) && (((isTail c) && (isScalar 0x800 w))))) w 3 v n e in
-    let j = both-inv (isTail b) (((isTail c) && (isScalar 0x800 w))) (i .0) in
-    let j' = both-inv (isTail c) (isScalar 0x800 w) (j .1) in
+    let j = both-true (isTail b) (((isTail c) && (isScalar 0x800 w))) (i .0) in
+    let j' = both-true (isTail c) (isScalar 0x800 w) (j .1) in
     let k = tail-inv b (j .0) in
     let k' = tail-inv c (j' .0) in
     let s = scalar-inv 0x800 w (j' .1) in
@@ -268,9 +265,9 @@ unfolding four
 four-inv a b c d v n h e =
     let w = a % 8 * 262144 + b % 64 * 4096 + c % 64 * 64 + d % 64 in
     let i = char-inv (((isTail b) && (((isTail c) && (((isTail d) && (isScalar 0x10000 w))))))) w 4 v n e in
-    let j = both-inv (isTail b) (((isTail c) && (((isTail d) && (isScalar 0x10000 w))))) (i .0) in
-    let j' = both-inv (isTail c) (((isTail d) && (isScalar 0x10000 w))) (j .1) in
-    let j'' = both-inv (isTail d) (isScalar 0x10000 w) (j' .1) in
+    let j = both-true (isTail b) (((isTail c) && (((isTail d) && (isScalar 0x10000 w))))) (i .0) in
+    let j' = both-true (isTail c) (((isTail d) && (isScalar 0x10000 w))) (j .1) in
+    let j'' = both-true (isTail d) (isScalar 0x10000 w) (j' .1) in
     let k = tail-inv b (j .0) in
     let k' = tail-inv c (j' .0) in
     let k'' = tail-inv d (j'' .0) in

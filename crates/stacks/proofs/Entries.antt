@@ -1,0 +1,72 @@
+-- The entries of a slice: one more, one less; what a stack that was lowered keeps.
+use Prim.Native.Nat.{_%_, _*_, _+_, _-_, _/_, _<_, _≤_, suc, zero, ℕ}
+use mathlib.Core.Bool.{Bool, false, true}
+use mathlib.Core.List.{List, [], _∷_}
+use mathlib.Core.Path.{_≡_, ap, refl}
+use native.Mathlib.Numerals.{add-one}
+use native.Mathlib.Omega.{arith}
+use lib.ListN.{getD, length, set}
+use lib.Seq.{getD-set-other, getD-set-same}
+use Rattle.stacks.specs.Indent.{Below, Low, entries-of, entry-of, word-of}
+use Rattle.stacks.specs.declared.indent.Indents.{Indents}
+
+pub entries-length : (a : List ℕ) (d : ℕ) → length (entries-of a d) ≡ d
+unfolding entries-of
+entries-length a zero = refl
+entries-length a (suc d) = ap suc (entries-length a d)
+
+entries-set : (a : List ℕ) (d k v : ℕ) → d ≤ k → entries-of (set a k v) d ≡ entries-of a d
+unfolding entries-of
+entries-set a zero k v h = refl
+entries-set a (suc d) k v h =
+    let n : d ≡ k → ⊥ = omega arith in
+    let l : d ≤ k = omega arith in
+    rw (getD-set-other a k d v 0 n, entries-set a d k v l)
+
+entry-word : (i : ℕ) (ends : Bool) → entry-of (word-of i ends) ≡ record { old = i; ends = ends }
+entry-word i true =
+    let e : (i * 2 + 1) / 2 ≡ i = omega arith in
+    let f : (i * 2 + 1) % 2 ≡ 1 = omega arith in
+    rw (e, f)
+entry-word i false =
+    let e : (i * 2 + 0) / 2 ≡ i = omega arith in
+    let f : (i * 2 + 0) % 2 ≡ 0 = omega arith in
+    rw (e, f)
+
+pub entries-push : (a : List ℕ) (d i : ℕ) (ends : Bool) → d < length a
+    → entries-of (set a d (word-of i ends)) (d + 1) ≡ record { old = i; ends = ends } ∷ entries-of a d
+unfolding entries-of
+entries-push a d i ends h =
+    let l : d ≤ d = omega arith in
+    rw (add-one d, getD-set-same a d (word-of i ends) 0 h, entries-set a d d (word-of i ends) l, entry-word i ends)
+
+pub entries-pop : (a : List ℕ) (d : ℕ) → 0 < d → entries-of a d ≡ entry-of (getD a (d - 1) 0) ∷ entries-of a (d - 1)
+unfolding entries-of
+entries-pop a zero h = absurd (omega arith)
+entries-pop a (suc d) h = let e : suc d - 1 ≡ d = omega arith in rw e
+
+pub entries-none : (a : List ℕ) (d : ℕ) → d ≤ 0 → entries-of a d ≡ []
+unfolding entries-of
+entries-none a d h = let e : d ≡ 0 = omega arith in rw e
+
+pub low-start : (room b : ℕ) (a : List ℕ) → Low room b a (record { indent = 0; depth = 0 })
+low-start room b a = record { deep = omega arith; indent = omega arith; words = λ k h. absurd (omega arith) }
+
+-- one entry less
+abbrev pub popped : List ℕ → ℕ → Indents
+popped a d = record { indent = getD a (d - 1) 0 / 2; depth = d - 1 }
+
+pub below-same : (a : List ℕ) (i : Indents) → Below a i i
+below-same a i = record { depth = omega arith; low = λ room b l. l }
+
+pub below-pop : {a : List ℕ} {i r : Indents} → Below a i r → 0 < r .depth → Below a i (popped a (r .depth))
+below-pop {r = r} w h = record {
+  depth = omega (arith, w .depth);
+  low = λ room b l.
+      let m = w .low room b l in
+      record {
+        deep = omega (arith, m .deep);
+        indent = m .words (r .depth - 1) (omega arith);
+        words = λ k g. m .words k (omega arith);
+      };
+}

@@ -1,0 +1,4 @@
+pub mod Entries
+pub mod Drops
+pub mod Rolls
+pub mod Frames

@@ -1,0 +1,5 @@
+pub mod Turns
+pub mod Near
+pub mod Passing
+pub mod Lengths
+pub mod Blocks

@@ -1,0 +1,72 @@
+-- `validity::go_slow` meets its contract. The invariant: what is left passes just where all of it does.
+use Prim.Native.Nat.{_-_, _≤_, ℕ}
+use mathlib.Core.List.{List}
+use mathlib.Core.Path.{_∙_, _≡_, refl}
+use native.Mathlib.Omega.{arith}
+use lib.ListN.{drop, length}
+use denote.Ref.{now}
+use borrow.Author.Needs.{needs}
+use Rattle.validity.specs.Sound.{sound}
+use Rattle.validity.proofs.Turns.{some-left}
+use Rattle.validity.proofs.Passing.{Next, next, sound-stop}
+use Rattle.validity.proofs.go_slow.Statement.{statement}
+use Rattle.validity.proofs.go_slow.Tie as tie
+
+abbrev Inv-loop : tie.InvT-loop
+Inv-loop s at upto i₀ i = (at ≤ i) × (i ≤ length s) × (sound (drop at s) ≡ sound (drop i s))
+
+abbrev μ-loop : tie.MeasureT-loop
+μ-loop s at upto i₀ i = length s - i
+
+-- the places: the loop's head, where a character was measured, where one was found
+abbrev S : tie.At-loop Inv-loop μ-loop → List ℕ
+S l = now (l .before .before .args .s)
+
+step : (c : tie.Else1 Inv-loop μ-loop) → Next (S (c .before .before .before)) (c .before .before .before .loop .i) (c .before .char-len .result)
+step c =
+    next (S (c .before .before .before)) (c .before .before .before .loop .i) (c .before .char-len .result) (c .before .before .before .loop .inv .1) (c .before .char-len .ensures) (c .if1 .left)
+
+loop-holds : tie.Need-loop-holds Inv-loop μ-loop
+loop-holds c = (search needs, search needs, refl)
+
+char-len-requires : tie.Need-char-len-requires Inv-loop μ-loop
+char-len-requires c κs = search needs
+
+returns : tie.Need-returns Inv-loop μ-loop
+returns c =
+    let l = c .before .before .before in
+    let h = some-left (S l) (l .loop .i) (search needs) in
+    record {
+      onward = l .loop .inv .0;
+      within = l .loop .inv .1;
+      same = l .loop .inv .2;
+      short = λ _. sound-stop _ (c .before .char-len .result) h (c .before .char-len .ensures) (c .if1 .taken);
+    }
+
+add-i : tie.Need-add-i Inv-loop μ-loop
+add-i c = omega (arith, step c)
+
+loop-less : tie.Need-loop-less Inv-loop μ-loop
+loop-less c = omega (arith, step c)
+
+loop-again : tie.Need-loop-again Inv-loop μ-loop
+loop-again c = (omega (arith, step c), omega (arith, step c), c .before .before .before .loop .inv .2 ∙ step c .same)
+
+returns-2 : tie.Need-returns-2 Inv-loop μ-loop
+returns-2 c =
+    let l = c .before in
+    record { onward = l .loop .inv .0; within = l .loop .inv .1; same = l .loop .inv .2; short = λ h. absurd (omega (arith, c .loop-test)) }
+
+pub go-slow-spec : {M : Type 1} → statement M
+go-slow-spec =
+    tie.close
+    (tie.spec
+    Inv-loop
+    μ-loop
+    loop-holds
+    char-len-requires
+    returns
+    add-i
+    loop-less
+    loop-again
+    returns-2)

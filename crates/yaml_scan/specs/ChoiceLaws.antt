@@ -1,0 +1,112 @@
+-- K3: a choice tells what is there, and so what its fetch keeps.
+use Prim.Native.Nat.{_≤_, ℕ}
+use mathlib.Core.Bool.{Bool, _&&_, _||_, false, not, true}
+use mathlib.Core.List.{List, [], _∷_}
+use mathlib.Core.Path.{_≡_, sym}
+use lib.Dec.{eqb, ltb}
+use borrow.Author.Tests.{ne-eqb}
+use lib.ListN.{length}
+use Rattle.yaml_text.specs.declared.Mark.{Mark}
+use Rattle.yaml_text.specs.Char.{'!', '%', '&', '*', '-', ':', '>', '?', '[', ']', '`', '|', at-sign, byte-order-mark, close-brace, comma, dot, double-quote, open-brace, single-quote}
+use Rattle.yaml_text.specs.Class.{among, isBlankOrBreakz, isBom, isFlow, isZ, peek}
+use Rattle.yaml_text.specs.Mark.{edge-of, isMarker, look}
+use Rattle.yaml_text.specs.Test.{both-true, on-pick, true-false}
+use Rattle.yaml_text.specs.All.{All, not-read}
+use Rattle.yaml_text.specs.PlaceLaws.{left, there}
+use Rattle.yaml_scan.specs.declared.Choice.{Choice}
+use Rattle.yaml_scan.specs.declared.Choice.the-variants.{AtAnchor, AtBlock, AtByteOrderMark, AtColon, AtComma, AtDash, AtDirective, AtEnd, AtMarker, AtPlain, AtQuestion, AtQuoted, AtTag, BelowIndent, Closes, Opens, Stray}
+use Rattle.yaml_scan.specs.Keys.{top-key}
+use Rattle.yaml_scan.specs.declared.Limits.{Limits}
+use Rattle.yaml_scan.specs.State.{News, State, in-flow, mark-of, rest-of, unroll-to}
+use Rattle.yaml_scan.specs.Value.{takes-colon}
+use Rattle.yaml_scan.specs.Choice.{choice, indicator, fetch, forced}
+use Rattle.yaml_scan.specs.Candidates.{known-top}
+use Rattle.yaml_scan.specs.Fetches.{Fetched, flow-collection-start-news, flow-collection-end-news, flow-entry-news, block-entry-news, key-news, value-by-news, plain-scalar-news, flow-scalar-news, tag-news, anchor-news, block-scalar-news, directive-news, byte-order-mark-news, document-indicator-news, placed-last, stream-end-all}
+
+-- what the fetch of a choice needs to know of the state
+abbrev pub Says : Choice → State → Type 0
+Says AtEnd s = Unit {0}
+Says AtDirective s = Unit {0}
+Says AtByteOrderMark s = Unit {0}
+Says BelowIndent s = Unit {0}
+Says Stray s = Unit {0}
+Says (AtMarker begins) s = 3 ≤ left (s .place)
+Says (Opens sequence) s = Unit {0}
+Says (Closes sequence) s = Unit {0}
+Says AtComma s = Unit {0}
+Says AtDash s = Unit {0}
+Says AtQuestion s = Unit {0}
+Says AtColon s = Unit {0}
+Says AtTag s = Unit {0}
+Says AtPlain s = Unit {0}
+Says (AtAnchor alias) s = Unit {0}
+Says (AtBlock literal) s = in-flow s ≡ false
+Says (AtQuoted single) s = Unit {0}
+
+marker-there : (m : Mark) (cs : List ℕ) → isMarker m cs ≡ true → 3 ≤ length cs
+unfolding isMarker
+marker-there m cs e =
+    let c = peek cs 0 in
+    let f = both-true (eqb (m .col) 0 && (eqb c '-' || eqb c dot) && eqb (peek cs 1) c && eqb (peek cs 2) c) _ e .0 in
+    let g = both-true (eqb (m .col) 0 && (eqb c '-' || eqb c dot) && eqb (peek cs 1) c) _ f in
+    let h = both-true (eqb (m .col) 0) _ (both-true (eqb (m .col) 0 && (eqb c '-' || eqb c dot)) _ (g .0) .0) .1 in
+    there (λ d. eqb d c) cs 2 (ne-eqb 0 c (λ z. true-false (sym (rw (← z) at h)))) (g .1)
+
+indicator-says : (s : State) (colon : Bool) (c n : ℕ) → Says (indicator (in-flow s) colon c n) s
+unfolding indicator
+indicator-says s colon c n =
+    on-pick P (eqb c '[') (λ _. tt) λ _.
+    on-pick P (eqb c open-brace) (λ _. tt) λ _.
+    on-pick P (eqb c ']') (λ _. tt) λ _.
+    on-pick P (eqb c close-brace) (λ _. tt) λ _.
+    on-pick P (eqb c comma) (λ _. on-pick P (in-flow s) (λ _. tt) λ _. tt) λ _.
+    on-pick P (eqb c '-' && isBlankOrBreakz n) (λ _. tt) λ _.
+    on-pick P (eqb c '?' && isBlankOrBreakz n) (λ _. tt) λ _.
+    on-pick P ((eqb c '-' || eqb c '?') && in-flow s && isFlow n) (λ _. tt) λ _.
+    on-pick P (eqb c ':' && colon) (λ _. tt) λ _.
+    on-pick P (eqb c '*') (λ _. tt) λ _.
+    on-pick P (eqb c '&') (λ _. tt) λ _.
+    on-pick P (eqb c '!') (λ _. tt) λ _.
+    on-pick P (eqb c '|') (λ _. on-pick P (in-flow s) (λ _. tt) λ e. e) λ _.
+    on-pick P (eqb c '>') (λ _. on-pick P (in-flow s) (λ _. tt) λ e. e) λ _.
+    on-pick P (eqb c single-quote) (λ _. tt) λ _.
+    on-pick P (eqb c double-quote) (λ _. tt) λ _.
+    on-pick P (among c (at-sign ∷ '`' ∷ '%' ∷ byte-order-mark ∷ [])) (λ _. tt) λ _. tt
+  where
+    P : Choice → Type 0
+    P k = Says k s
+
+pub choice-says : (s : State) → Says (choice s) s
+unfolding choice
+choice-says s =
+    let c = look (s .place) in
+    let outside = eqb (mark-of s .col) 0 && not (in-flow s) in
+    on-pick P (isZ c) (λ _. tt) λ _.
+    on-pick P (isMarker (mark-of s) (rest-of s)) (λ e. marker-there (mark-of s) (rest-of s) e) λ _.
+    on-pick P (outside && eqb c '%') (λ _. tt) λ _.
+    on-pick P (outside && isBom c) (λ _. tt) λ _.
+    on-pick P (ltb (edge-of (mark-of s)) (s .indents .indent)) (λ _. tt) λ _.
+    indicator-says s (takes-colon s) c (peek (rest-of s) 1)
+  where
+    P : Choice → Type 0
+    P k = Says k s
+
+pub fetch-news : (ms : List Mark) (limits : Limits) (c : Choice) (s : State) → Says c s → All News (Fetched ms s) (fetch limits c s)
+unfolding fetch
+fetch-news ms limits AtEnd s h = stream-end-all s (λ r. placed-last ms (unroll-to 0 s .ended) (forced (mark-of s)) _)
+fetch-news ms limits AtDirective s h = directive-news ms s
+fetch-news ms limits AtByteOrderMark s h = byte-order-mark-news ms s
+fetch-news ms limits BelowIndent s h = not-read
+fetch-news ms limits Stray s h = not-read
+fetch-news ms limits (AtMarker begins) s h = document-indicator-news ms begins s h
+fetch-news ms limits (Opens sequence) s h = flow-collection-start-news ms limits sequence s
+fetch-news ms limits (Closes sequence) s h = flow-collection-end-news ms sequence s
+fetch-news ms limits AtComma s h = flow-entry-news ms s
+fetch-news ms limits AtDash s h = block-entry-news ms limits s
+fetch-news ms limits AtQuestion s h = key-news ms limits s
+fetch-news ms limits AtColon s h = value-by-news ms limits (top-key (s .keys)) s (λ r. known-top ms (s .keys) (r .known))
+fetch-news ms limits AtTag s h = tag-news ms s
+fetch-news ms limits AtPlain s h = plain-scalar-news ms s
+fetch-news ms limits (AtAnchor alias) s h = anchor-news ms alias s
+fetch-news ms limits (AtBlock literal) s h = block-scalar-news ms literal s h
+fetch-news ms limits (AtQuoted single) s h = flow-scalar-news ms single s

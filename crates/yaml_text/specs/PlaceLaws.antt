@@ -1,0 +1,125 @@
+-- Going on in a text: what every reader keeps of the place that it is given.
+use Prim.Native.Nat.{_+_, _-_, _<_, _≤_, suc, zero, ℕ}
+use mathlib.Core.Bool.{Bool, false, true}
+use mathlib.Core.List.{List, [], _∷_}
+use mathlib.Core.Path.{_∙_, _≡_, refl, sym}
+use native.Mathlib.Nat.{le-refl}
+use native.Mathlib.Omega.{arith}
+use lib.Dec.{eqb}
+use lib.ListN.{drop, length, length-drop}
+use lib.Seq.{drop-drop}
+use Rattle.yaml_text.specs.declared.Mark.{Mark}
+use Rattle.yaml_text.specs.Char.{carriage-return, line-feed}
+use Rattle.yaml_text.specs.Class.{isBreak, peek}
+use Rattle.yaml_text.specs.Mark.{Place, along, break-length, halfBreak, here, look, new-line, over, skip-break, skip-by, word}
+use Rattle.yaml_text.specs.Test.{both-true, by-pick, by-test, true-false}
+use Rattle.yaml_text.specs.DecodeLaws.{NoNul, no-nul-drop}
+
+-- how many characters are left
+abbrev pub left : Place → ℕ
+left p = length (p .rest)
+
+-- q is the place p, or a place further on in the same text
+pub record Fits (p q : Place) : Type 0 where
+  -- how many characters further
+  pub taken : ℕ
+  pub within : taken ≤ left p
+  pub rest-is : q .rest ≡ drop taken (p .rest)
+  pub index-is : q .mark .index ≡ p .mark .index + taken
+  pub line-on : p .mark .line ≤ q .mark .line
+
+pub fits-refl : (p : Place) → Fits p p
+fits-refl p = record { taken = 0; within = omega arith; rest-is = refl; index-is = omega arith; line-on = le-refl _ }
+
+pub fits-trans : {p q r : Place} → Fits p q → Fits q r → Fits p r
+fits-trans {p} {q} {r} f g =
+    let e : left q ≡ left p - f .taken = rw (f .rest-is, length-drop (f .taken) (p .rest)) in
+    record {
+      taken = f .taken + g .taken;
+      within = omega arith;
+      rest-is = rw (g .rest-is, f .rest-is, drop-drop (g .taken) (f .taken) (p .rest));
+      index-is = omega arith;
+      line-on = omega arith;
+    }
+
+-- what is left and what was taken are all that was there
+pub fits-left : {p q : Place} (f : Fits p q) → left q + f .taken ≡ left p
+fits-left {p} {q} f =
+    let e : left q ≡ left p - f .taken = rw (f .rest-is, length-drop (f .taken) (p .rest)) in
+    let h = f .within in
+    omega arith
+
+-- so the text ends at the same index
+pub fits-end : {p q : Place} → Fits p q → q .mark .index + left q ≡ p .mark .index + left p
+fits-end f = let e = fits-left f in omega arith
+
+pub fits-no-nul : {p q : Place} → Fits p q → NoNul (p .rest) → NoNul (q .rest)
+fits-no-nul {p} f h = rw (f .rest-is) (no-nul-drop (f .taken) (p .rest) h)
+
+-- behind one character
+fits-next : {m m' : Mark} {q : Place} (c : ℕ) (cs : List ℕ) → m' .index ≡ m .index + 1 → m .line ≤ m' .line → Fits (here m' cs) q → Fits (here m (c ∷ cs)) q
+fits-next c cs e l f =
+    record { taken = suc (f .taken); within = omega arith; rest-is = f .rest-is; index-is = omega arith; line-on = omega arith }
+
+pub fits-along : (m : Mark) (c : ℕ) (cs : List ℕ) {q : Place} → Fits (here (along m) cs) q → Fits (here m (c ∷ cs)) q
+fits-along m c cs f = fits-next c cs refl (le-refl _) f
+
+pub fits-over : (m : Mark) (c d : ℕ) (cs : List ℕ) {q : Place} → Fits (here (over m c d) cs) q → Fits (here m (c ∷ cs)) q
+unfolding over
+fits-over m c d cs f =
+    by-test (halfBreak c d)
+    (λ e. fits-next c cs refl (le-refl _) (rw e at f))
+    (λ e. by-test (isBreak c)
+    (λ g. fits-next c cs refl (omega arith) (rw (e, g) at f))
+    (λ g. fits-next c cs refl (le-refl _) (rw (e, g) at f)))
+
+-- a class that the end is not of tells that a character is there
+pub there : (f : ℕ → Bool) (cs : List ℕ) (i : ℕ) → f 0 ≡ false → f (peek cs i) ≡ true → i < length cs
+there f [] i z e = true-false (sym e ∙ z)
+there f (c ∷ cs) zero z e = omega arith
+there f (c ∷ cs) (suc i) z e = let h = there f cs i z e in omega arith
+
+-- n characters on
+pub skip-fit : (n : ℕ) (p : Place) → n ≤ left p → Fits p (skip-by n p)
+skip-fit n p h = record { taken = n; within = h; rest-is = refl; index-is = refl; line-on = le-refl _ }
+
+-- a places on, and b more
+pub skip-on : (a b : ℕ) (p : Place) → a + b ≤ left p → Fits (skip-by a p) (skip-by (a + b) p)
+skip-on a b p h =
+    let e = length-drop a (p .rest) in
+    record { taken = b; within = omega arith; rest-is = sym (drop-drop b a (p .rest)); index-is = omega arith; line-on = le-refl _ }
+
+break-fit : (n : ℕ) (p : Place) → n ≤ left p → Fits p (here (new-line n (p .mark)) (drop n (p .rest)))
+break-fit n p h = record { taken = n; within = h; rest-is = refl; index-is = refl; line-on = omega arith }
+
+-- a break that stands here is there
+pub break-there : (cs : List ℕ) → break-length cs ≤ length cs
+unfolding break-length halfBreak isBreak
+break-there cs =
+    by-test (halfBreak (peek cs 0) (peek cs 1))
+    (λ e. rw e (there (λ d. eqb d line-feed) cs 1 refl (both-true (eqb (peek cs 0) carriage-return) _ e .1)))
+    (λ e. by-test (isBreak (peek cs 0))
+    (λ f. rw (e, f) (there isBreak cs 0 refl f))
+    (λ f. rw (e, f) (omega arith)))
+
+pub skip-break-fit : (p : Place) → Fits p (skip-break p)
+unfolding skip-break
+skip-break-fit p =
+    let n = break-length (p .rest) in
+    by-pick (Fits p) (eqb n 0) p (here (new-line n (p .mark)) (drop n (p .rest))) (fits-refl p) (break-fit n p (break-there (p .rest)))
+
+-- past a break the line is over
+pub skip-break-line : (p : Place) → isBreak (look p) ≡ true → p .mark .line < skip-break p .mark .line
+unfolding skip-break break-length
+skip-break-line p e =
+    by-test (halfBreak (look p) (peek (p .rest) 1))
+    (λ f. rw f (omega arith))
+    (λ f. rw (f, e) (omega arith))
+
+pub word-fit : (f : ℕ → Bool) (m : Mark) (cs : List ℕ) → Fits (here m cs) (word f m cs .place)
+unfolding word
+word-fit f m [] = fits-refl _
+word-fit f m (c ∷ cs) =
+    by-test (f c)
+    (λ e. rw (e, word) (fits-along m c cs (word-fit f (along m) cs)))
+    (λ e. rw (e, word) (fits-refl _))
