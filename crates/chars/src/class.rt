@@ -1,4 +1,4 @@
-// The tests of char_traits, without branches. 0 stands for the end of the text.
+// The tests of char_traits. 0 stands for the end of the text. `|` and `&` take no branch: a loop that stops at a class gets one bit test.
 ghost use mathlib.Core.Bool.{true};
 ghost use mathlib.Core.Path.{_≡_};
 ghost use Rattle.yaml_text.specs.Class.{asHex, isAlpha, isAnchor, isBlank, isBlankOrBreakz, isBom, isBreak, isBreakz, isDigit, isFlow, isHex, isNonSpace, isTag, isUri, isWord, isZ};
@@ -66,6 +66,7 @@ pub fn as_hex(c: u32) -> u32
     c - 87
 }
 
+// , [ ] { }
 pub fn is_flow(c: u32) -> bool
     ensures { λ r. ⌜ r ≡ isFlow c ⌝ }
 {
@@ -78,6 +79,7 @@ pub fn is_bom(c: u32) -> bool
     c == 0xFEFF
 }
 
+// Neither blank, break, end nor byte order mark.
 pub fn is_yaml_non_space(c: u32) -> bool
     ensures { λ r. ⌜ r ≡ isNonSpace c ⌝ }
 {
@@ -90,12 +92,14 @@ pub fn is_anchor_char(c: u32) -> bool
     is_yaml_non_space(c) & !is_flow(c)
 }
 
+// Letters, digits and -.
 pub fn is_word_char(c: u32) -> bool
     ensures { λ r. ⌜ r ≡ isWord c ⌝ }
 {
     is_alpha(c) & (c != 95)
 }
 
+// Word characters and # ; / ? : @ & = + $ , _ . ! ~ * ' ( ) [ ] %, by ranges.
 pub fn is_uri_char(c: u32) -> bool
     ensures { λ r. ⌜ r ≡ isUri c ⌝ }
 {

@@ -47,9 +47,10 @@ same-length-2 c = search needs
 
 returns-2 : tie.Need-returns-2
 returns-2 c =
-    let a = c .before .before .before .before .before .before .before .before .before .before .before .args in
-    wrote (now (a .out)) _ (a .n) (a .c) _ (two-bytes (a .c) (c .before .before .before .before .before .before .before .before .before .if1 .left) (c .before .before .before .before .before .before .before .before .if2 .taken))
-    (sets-snoc (now (a .out)) (a .n) _ (_ ∷ []) (c .before .before .before .before .before .before .put2 .ensures) (c .before .before .put-tail .ensures))
+    let one = c .before .before .before .before .before .before in
+    let a = one .before .before .before .before .before .args in
+    wrote (now (a .out)) _ (a .n) (a .c) _ (two-bytes (a .c) (one .before .before .before .if1 .left) (one .before .before .if2 .taken))
+    (sets-snoc (now (a .out)) (a .n) _ (_ ∷ []) (one .put2 .ensures) (c .before .before .put-tail .ensures))
 
 add-put-2 : tie.Need-add-put-2
 add-put-2 c = search needs
@@ -80,10 +81,12 @@ same-length-3 c = search needs
 
 returns-3 : tie.Need-returns-3
 returns-3 c =
-    let a = c .before .before .before .before .before .before .before .before .before .before .before .before .before .before .before .before .args in
-    wrote (now (a .out)) _ (a .n) (a .c) _ (three-bytes (a .c) (c .before .before .before .before .before .before .before .before .before .before .before .before .before .if2 .left) (c .before .before .before .before .before .before .before .before .before .before .before .before .if3 .taken))
+    let two = c .before .before .before .before .before .before in
+    let one = two .before .before .before .before in
+    let a = one .before .before .before .before .before .before .args in
+    wrote (now (a .out)) _ (a .n) (a .c) _ (three-bytes (a .c) (one .before .before .before .if2 .left) (one .before .before .if3 .taken))
     (sets-snoc (now (a .out)) (a .n) _ (_ ∷ _ ∷ [])
-    (sets-snoc (now (a .out)) (a .n) _ (_ ∷ []) (c .before .before .before .before .before .before .before .before .before .before .put3 .ensures) (c .before .before .before .before .before .before .put-tail2 .ensures))
+    (sets-snoc (now (a .out)) (a .n) _ (_ ∷ []) (one .put3 .ensures) (two .put-tail2 .ensures))
     (c .before .before .put-tail3 .ensures))
 
 add-put-3 : tie.Need-add-put-3
@@ -121,12 +124,15 @@ same-length-4 c = search needs
 
 returns-4 : tie.Need-returns-4
 returns-4 c =
-    let a = c .before .before .before .before .before .before .before .before .before .before .before .before .before .before .before .before .before .before .before .before .args in
-    wrote (now (a .out)) _ (a .n) (a .c) _ (four-bytes (a .c) (c .before .before .before .before .before .before .before .before .before .before .before .before .before .before .before .before .if3 .left))
+    let three = c .before .before .before .before .before .before in
+    let two = three .before .before .before .before in
+    let one = two .before .before .before .before in
+    let a = one .before .before .before .before .before .before .args in
+    wrote (now (a .out)) _ (a .n) (a .c) _ (four-bytes (a .c) (one .before .before .if3 .left))
     (sets-snoc (now (a .out)) (a .n) _ (_ ∷ _ ∷ _ ∷ [])
     (sets-snoc (now (a .out)) (a .n) _ (_ ∷ _ ∷ [])
-    (sets-snoc (now (a .out)) (a .n) _ (_ ∷ []) (c .before .before .before .before .before .before .before .before .before .before .before .before .before .before .put4 .ensures) (c .before .before .before .before .before .before .before .before .before .before .put-tail4 .ensures))
-    (c .before .before .before .before .before .before .put-tail5 .ensures))
+    (sets-snoc (now (a .out)) (a .n) _ (_ ∷ []) (one .put4 .ensures) (two .put-tail4 .ensures))
+    (three .put-tail5 .ensures))
     (c .before .before .put-tail6 .ensures))
 
 pub put-char-spec : {M : Type 1} → statement M

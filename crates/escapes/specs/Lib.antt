@@ -1,0 +1,3 @@
+pub mod CodePoint
+pub mod Escaped
+pub mod Parts

@@ -1,0 +1,5 @@
+pub mod Walk
+pub mod Breaks
+pub mod Line
+pub mod Gap
+pub mod Answers
