@@ -12,7 +12,7 @@ use Rattle.yaml_lexeme.specs.Gap.{blanks-and-comment}
 use Rattle.yaml_scan.specs.Indent.{stack, top-ends}
 use Rattle.yaml_scan.specs.declared.Candidate.the-variants.{Absent}
 use Rattle.yaml_scan.specs.declared.Level.{Level}
-use Rattle.yaml_scan.specs.State.{Limits, News, State, adjacent-here, allow, at-place, emit, emit-lexeme, empty-if, in-flow, mark-of, put, remove-key, save-key, with-indents, with-keys, with-levels}
+use Rattle.yaml_scan.specs.State.{Limits, News, State, adjacent-here, allow, at-place, emit, emit-lexeme, empty-if, in-flow, mark-of, on-level, put, remove-key, save-key, with-indents, with-keys, with-levels}
 
 -- 28
 unfoldable pub has-level-room : Limits → State → Bool
@@ -63,9 +63,8 @@ fetch-flow-collection-end sequence s₀ = do
       (adjacent-here (at-place (l .place) false (allow false (with-keys (drop 1 (s .keys)) (with-levels (drop 1 (s .levels)) s)))))
 
 -- a new entry of the level: no ':' and no '?' came in it
-unfoldable pub new-entry : List Level → List Level
-new-entry [] = []
-new-entry (l ∷ ls) = new-level (l .sequence) ∷ ls
+abbrev pub new-entry : List Level → List Level
+new-entry ls = on-level (λ l. new-level (l .sequence)) ls
 
 -- K6: ',' in flow removes the candidate and allows one
 unfoldable pub fetch-flow-entry : State → Read News

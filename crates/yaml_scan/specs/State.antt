@@ -78,6 +78,11 @@ abbrev pub with-levels : List Level → State → State
 with-levels ls s =
     record { place = s .place; leads = s .leads; allowed = s .allowed; indents = s .indents; keys = s .keys; levels = ls; adjacent = s .adjacent; count = s .count }
 
+-- the innermost level changed; at level 0 there is none
+unfoldable pub on-level : (Level → Level) → List Level → List Level
+on-level f [] = []
+on-level f (l ∷ ls) = f l ∷ ls
+
 -- ':' stands directly after what was read up to here (K5)
 abbrev pub adjacent-here : State → State
 adjacent-here s =

@@ -14,7 +14,7 @@ use Rattle.yaml_scan.specs.declared.Candidate.{Candidate}
 use Rattle.yaml_scan.specs.declared.Candidate.the-variants.{Possible, Absent}
 use Rattle.yaml_scan.specs.Keys.{set-key, top-key}
 use Rattle.yaml_scan.specs.declared.Level.{Level}
-use Rattle.yaml_scan.specs.State.{Limits, News, State, allow, at-place, emit, empty-if, in-flow, mark-of, put, put-before, remove-key, rest-of, with-indents, with-keys, with-levels}
+use Rattle.yaml_scan.specs.State.{Limits, News, State, allow, at-place, emit, empty-if, in-flow, mark-of, on-level, put, put-before, remove-key, rest-of, with-indents, with-keys, with-levels}
 
 -- the one character here
 abbrev pub one-character : Kind → Place → Lexeme
@@ -34,9 +34,8 @@ fetch-block-entry limits s₀ = do
   emit (empty-if (r .starts) BlockSequenceStart (mark-of s) ++ (put (l .token) ∷ [])) (at-place (l .place) false (allow true s))
 
 -- '?' came in this entry
-unfoldable pub questioned : List Level → List Level
-questioned [] = []
-questioned (l ∷ ls) = record { sequence = l .sequence; colon = l .colon; question = true; implicit = l .implicit } ∷ ls
+abbrev pub questioned : List Level → List Level
+questioned ls = on-level (λ l. record { sequence = l .sequence; colon = l .colon; question = true; implicit = l .implicit }) ls
 
 -- K4: '?'. 46: at level 0 no simple key is allowed
 unfoldable pub fetch-key : Limits → State → Read News
@@ -60,10 +59,9 @@ begins-pair [] = false
 begins-pair (l ∷ ls) = l .sequence && not (l .colon) && not (l .question)
 
 -- ':' came in this entry
-unfoldable pub colon-seen : List Level → List Level
-colon-seen [] = []
-colon-seen (l ∷ ls) =
-    record { sequence = l .sequence; colon = true; question = l .question; implicit = l .implicit || begins-pair (l ∷ ls) } ∷ ls
+abbrev pub colon-seen : List Level → List Level
+colon-seen ls =
+    on-level (λ l. record { sequence = l .sequence; colon = true; question = l .question; implicit = l .implicit || begins-pair ls }) ls
 
 abbrev pub kind-if : Bool → Kind → List Kind
 kind-if b k = pick b (k ∷ []) []
