@@ -27,7 +27,7 @@ scan-bracket k p = do
   e ← blanks-and-comment (skip-by 1 p)
   got (lexeme k (p .mark) (e .mark) e)
 
--- K6: at level 0, while the top entry ends in BlockEnd, a non-ending entry with indent + 1 is stacked
+-- K6: at level 0, while the top entry ends in BlockEnd, a non-ending entry with indent + 1 is stacked [A4]
 unfoldable pub stack-bracket : Limits → State → Read State
 stack-bracket limits s =
     elim (not (in-flow s) && top-ends (s .indents .entries)) [
@@ -35,7 +35,7 @@ stack-bracket limits s =
       | false ↦ got s
     ]
 
--- K6: '[' or '{' saves a candidate and allows one. 28: the 256th flow level
+-- K6: '[' or '{' saves a candidate and allows one. 28: the 256th flow level [A5]
 unfoldable pub fetch-flow-collection-start : Limits → Bool → State → Read News
 fetch-flow-collection-start limits sequence s₀ = do
   s ← stack-bracket limits (save-key s₀)
@@ -53,7 +53,7 @@ unfoldable pub implicit-open : List Level → Bool
 implicit-open [] = false
 implicit-open (l ∷ ls) = l .implicit
 
--- K6: ']' or '}'. 47: not the latest open one's kind, or none is open
+-- K6: ']' or '}'. 47: not the latest open one's kind, or none is open [A3, C9]
 unfoldable pub fetch-flow-collection-end : Bool → State → Read News
 fetch-flow-collection-end sequence s₀ = do
   _ ← need (closes-level sequence (s₀ .levels)) 47 (mark-of s₀)
@@ -62,7 +62,7 @@ fetch-flow-collection-end sequence s₀ = do
   emit (empty-if (implicit-open (s .levels)) FlowMappingEnd (mark-of s) ++ (put (l .token) ∷ []))
       (adjacent-here (at-place (l .place) false (allow false (with-keys (drop 1 (s .keys)) (with-levels (drop 1 (s .levels)) s)))))
 
--- a new entry of the level: no ':' and no '?' came in it
+-- a new entry of the level: no ':' and no '?' came in it [C6]
 abbrev pub new-entry : List Level → List Level
 new-entry ls = on-level (λ l. new-level (l .sequence)) ls
 

@@ -17,13 +17,13 @@ use Rattle.yaml_scan.specs.declared.Candidate.the-variants.{Absent}
 use Rattle.yaml_scan.specs.State.{Event, Limits, News, State, allow, at-place, block-ends, counting, ends-with, goes-on, in-flow, lapse-key, mark-of, preceded, put, put-before, rest-of, unroll-to, with-indents}
 use Rattle.yaml_scan.specs.Choice.{fetch-next}
 
--- K1, K2: the gap, then the lapse
+-- K1, K2: the gap, then the lapse [J2]
 unfoldable pub to-next-token : State → Read State
 to-next-token s = do
   g ← skip-gap (in-flow s) (s .allowed) (pick (s .leads) leading after-text) (mark-of s) (rest-of s)
   lapse-key (at-place (g .place) (g .leads) (allow (g .allowed) s))
 
--- unroll_indent to the column; in flow nothing ends
+-- unroll_indent to the column; in flow nothing ends [A1, J1]
 unfoldable pub unrolled : State → Unrolled
 unrolled s = elim (in-flow s) [
   | true ↦ record { ended = 0; indents = s .indents }
