@@ -69,7 +69,7 @@ begin cs =
 unfoldable pub scan : Limits → List ℕ → Outcome
 scan limits cs = after-events (put (empty-token StreamStart origin) ∷ []) (run limits (suc (length cs)) (begin cs))
 
--- the tokens that go in before token n, after these events: as noted so far, until an event says it
+-- the tokens that go in before token n, after these events: as noted so far, until an event says it. (A candidate is used up once, so at most one does.)
 unfoldable pub noted : ℕ → List Token → List Event → List Token
 noted n ts [] = ts
 noted n ts (put t ∷ es) = noted n ts es
