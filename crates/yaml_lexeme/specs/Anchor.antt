@@ -7,7 +7,7 @@ use Rattle.yaml_text.specs.Mark.{Place, along, word}
 use Rattle.yaml_lexeme.specs.Token.{Alias, Anchor, Lexeme, lexeme}
 use Rattle.yaml_text.specs.Refusal.{Read, _>>=_, got, need}
 
--- from its indicator; 27: empty
+-- from its indicator; 27: empty [H9]
 unfoldable pub scan-anchor : Bool → Place → Read Lexeme
 scan-anchor alias p = do
   let r = word isAnchor (along (p .mark)) (drop 1 (p .rest))

@@ -84,7 +84,7 @@ margin column n m (c ∷ cs) =
       | false ↦ record { breaks = n; place = here m (c ∷ cs) }
     ]
 
--- a line that opens with a BOM (K1), or at column 0 with a document marker, is no content line
+-- a line that opens with a BOM (K1), or at column 0 with a document marker, is no content line [G1 to G3]
 unfoldable pub opens-content : Mark → List ℕ → Bool
 opens-content m cs = not (isBreakz (peek cs 0)) && not (isBom (peek cs 0)) && not (isMarker m cs)
 
@@ -130,7 +130,7 @@ opening-turn b l m c cs =
           content-stops
     ]
 
--- content lines run to the break, BOMs included
+-- content lines run to the break, BOMs included [G9]
 unfoldable pub content-turn : Layout → Line → Mark → ℕ → List ℕ → ContentTurn
 content-turn b (ahead n) m c cs = opening-turn b (ahead n) m c cs
 content-turn b (behind w n) m c cs = opening-turn b (behind w n) m c cs
@@ -149,7 +149,7 @@ lines-after (ahead n) = replicate n line-feed
 lines-after (inside w) = []
 lines-after (behind w n) = replicate n line-feed
 
--- 8.1.1.2: the line feeds behind the content. last: the text ends in a line that has no break, which counts as one
+-- 8.1.1.2: the line feeds behind the content. last: the text ends in a line that has no break, which counts as one [G5]
 unfoldable pub chomped : Chomping → Bool → Line → List ℕ
 chomped Strip last l = []
 chomped Clip last l = own-break l ++ pick last (line-feed ∷ []) []
@@ -172,13 +172,13 @@ content b l m (c ∷ cs) =
     (λ l'. content b l' (over m c (peek cs 0)) cs)
     (content-end b l (here m (c ∷ cs)))
 
--- the text where the whole text ends before any content, after n lines; part: in a line that is not empty
+-- the text where the whole text ends before any content, after n lines; part: in a line that is not empty [G6]
 unfoldable pub no-content : Chomping → ℕ → Bool → List ℕ
 no-content Strip n part = []
 no-content Clip n part = []
 no-content Keep n part = pick (eqb n 0 && part) (line-feed ∷ []) (replicate n line-feed)
 
--- 32: the first content column is above the parent's but below its own indent
+-- 32: the first content column is above the parent's but below its own indent [G4, G7, G8, G10, G11]
 unfoldable pub block-content : Layout → Style → ℕ → Mark → Margin → Read Lexeme
 block-content b style parent start g =
     let p = g .place in
@@ -194,7 +194,7 @@ block-content b style parent start g =
       ]
     ]
 
--- from its indicator. 30: the rest of the header; 31: a tab right after its break. parent: the block's own indent + 1
+-- from its indicator. 30: the rest of the header; 31: a tab right after its break. parent: the block's own indent + 1 [A2, D9]
 unfoldable pub scan-block-scalar : Bool → ℕ → Place → Read Lexeme
 scan-block-scalar literal parent p = do
   h ← indicators (p .mark) (skip-by 1 p)

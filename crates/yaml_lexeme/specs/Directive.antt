@@ -64,7 +64,7 @@ tag-prefix start p = do
   _ ← need (eqb (look p) '!' || isTag (look p)) 18 start
   uri-at isUri start p
 
--- %TAG; 19: no blank after the prefix
+-- %TAG; 19: no blank after the prefix [H3]
 unfoldable pub tag-directive : Mark → Place → Read Lexeme
 tag-directive start p = do
   h ← tag-handle start (blanks-at p)
@@ -85,7 +85,7 @@ parameters some blank m (c ∷ cs) =
       ]
     ]
 
--- the span takes in the blanks behind the last word
+-- the span takes in the blanks behind the last word [H1, H2]
 unfoldable pub reserved-directive : Mark → List ℕ → Place → Lexeme
 reserved-directive start name p =
     let r = parameters false false (p .mark) (p .rest) in
@@ -102,7 +102,7 @@ directive-of start name p =
       ]
     ]
 
--- from its '%', and past its line. 10: no name; 11: the name is stopped by a BOM; 15: no comment or break
+-- from its '%', and past its line. 10: no name; 11: the name is stopped by a BOM; 15: no comment or break [H4]
 unfoldable pub scan-directive : Place → Read Lexeme
 scan-directive p = do
   let name-mark = along (p .mark)

@@ -38,7 +38,7 @@ hex-number start (suc n) v cs =
       | false ↦ refused 38 start
     ]
 
--- 37: an unknown escape, or the end; 39: a surrogate or above 0x10FFFF. cs: the text behind the letter
+-- 37: an unknown escape, or the end; 39: a surrogate or above 0x10FFFF. cs: the text behind the letter [E2, E7, H8]
 unfoldable pub escape-of : Mark → Named → List ℕ → Read Escaped
 escape-of start (Stands c) cs = got (record { char = c; took = 1 })
 escape-of start (Digits n) cs = do

@@ -20,7 +20,7 @@ pub data GapTurn : Type 0 where
   stop : GapTurn
   wrong : ℕ → Mark → GapTurn
 
--- a tab among the leading blanks counts at level 0 only; the first one is kept
+-- a tab among the leading blanks counts at level 0 only; the first one is kept [D4 to D7]
 unfoldable pub on-blank : Bool → Mark → ℕ → Before → Before
 on-blank flow m c Leading = pick (not flow && eqb c tab) (Tabbed m) Leading
 on-blank flow m c (Tabbed t) = Tabbed t
@@ -106,6 +106,6 @@ comment-after blank p =
       | false ↦ got p
     ]
 
--- the blanks and comment read after a directive, a block header, a quoted scalar, a bracket, ',' and `...`
+-- the blanks and comment read after a directive, a block header, a quoted scalar, a bracket, ',' and `...` [I1, I2]
 unfoldable pub blanks-and-comment : Place → Read Place
 blanks-and-comment p = comment-after (isBlank (look p)) (blanks (p .mark) (p .rest))

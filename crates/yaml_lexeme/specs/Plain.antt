@@ -35,7 +35,7 @@ plain-text flow blank m (c ∷ cs) =
       | false ↦ glue c (here m (c ∷ cs)) (plain-text flow (isBlank c) (along m) cs)
     ]
 
--- whatever character it begins with is text (K3)
+-- whatever character it begins with is text (K3) [C10, F1 to F3]
 unfoldable pub scan-plain-scalar : Bool → Place → Lexeme
 scan-plain-scalar flow p =
     let r = plain-text flow false (along (p .mark)) (drop 1 (p .rest)) in

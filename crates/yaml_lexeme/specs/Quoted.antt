@@ -51,7 +51,7 @@ folds-to (folded zero) = space ∷ []
 folds-to (folded (suc n)) = replicate (suc n) line-feed
 folds-to (joined n fresh) = replicate n line-feed
 
--- 36: a tab as indentation, after a break
+-- 36: a tab as indentation, after a break [D8]
 unfoldable pub quoted-blank : Quote → Mark → ℕ → Mode → Turn
 quoted-blank q m c chars-of = goes [] (blanks-of (c ∷ [])) 0
 quoted-blank q m c (blanks-of bs) = goes [] (blanks-of (bs ++ (c ∷ []))) 0
@@ -73,7 +73,7 @@ abbrev pub escape-turn : List ℕ → Read Escaped → Turn
 escape-turn t (got e) = goes (t ++ (e .char ∷ [])) chars-of (e .took)
 escape-turn t (refused n m) = wrong-quote n m
 
--- a character of the text: t stands before it. cs: the text behind it
+-- a character of the text: t stands before it. cs: the text behind it [E9]
 unfoldable pub quoted-char : Quote → List ℕ → ℕ → List ℕ → Turn
 quoted-char q t c cs =
     elim (eqb c (quote-char q)) [
@@ -87,7 +87,7 @@ quoted-char q t c cs =
       ]
     ]
 
--- 33: a document marker; 35: a column below the indent. Looked at where text follows blanks and breaks
+-- 33: a document marker; 35: a column below the indent. Looked at where text follows blanks and breaks [E3, E8]
 unfoldable pub quoted-line : Quote → Mode → Mark → ℕ → List ℕ → Turn
 quoted-line q b m c cs =
     elim (isMarker m (c ∷ cs)) [
@@ -98,7 +98,7 @@ quoted-line q b m c cs =
       ]
     ]
 
--- directly behind an escaped break the closing quote is not held against the indent
+-- directly behind an escaped break the closing quote is not held against the indent [E1]
 unfoldable pub quoted-text : Quote → Mode → Mark → ℕ → List ℕ → Turn
 quoted-text q chars-of m c cs = quoted-char q [] c cs
 quoted-text q (blanks-of bs) m c cs = quoted-line q (blanks-of bs) m c cs
@@ -135,7 +135,7 @@ quoted-run q b zero m (c ∷ cs) =
     (here (along m) cs)
 quoted-run q b (suc k) m (c ∷ cs) = quoted-run q b k (over m c (peek cs 0)) cs
 
--- 40: what may follow a quoted scalar
+-- 40: what may follow a quoted scalar [E4 to E6]
 unfoldable pub fits-after : Bool → Bool → ℕ → Bool
 fits-after flow same-line c =
     isBreakz c || (flow && among c (comma ∷ ']' ∷ close-brace ∷ [])) || (eqb c ':' && (flow || same-line))

@@ -100,7 +100,7 @@ tag-texts start p =
           ]
     ]
 
--- 26: a tag not followed by blank, break, end or, in flow, a flow indicator
+-- 26: a tag not followed by blank, break, end or, in flow, a flow indicator [H5]
 unfoldable pub scan-tag : Bool → Place → Read Lexeme
 scan-tag flow p = do
   t ← tag-texts (p .mark) p

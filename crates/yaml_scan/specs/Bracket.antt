@@ -13,7 +13,7 @@ use Rattle.yaml_scan.specs.Indent.{stack, top-ends}
 use Rattle.yaml_scan.specs.declared.Candidate.the-variants.{Absent}
 use Rattle.yaml_scan.specs.declared.Level.{Level}
 use Rattle.yaml_scan.specs.declared.Limits.{Limits}
-use Rattle.yaml_scan.specs.State.{News, State, adjacent-here, allow, at-place, emit, emit-lexeme, empty-if, in-flow, mark-of, put, remove-key, save-key, with-indents, with-keys, with-levels}
+use Rattle.yaml_scan.specs.State.{News, State, adjacent-here, allow, at-place, emit, emit-lexeme, empty-if, in-flow, mark-of, on-level, put, remove-key, save-key, with-indents, with-keys, with-levels}
 
 -- 28
 unfoldable pub has-level-room : Limits → State → Bool
@@ -28,7 +28,7 @@ scan-bracket k p = do
   e ← blanks-and-comment (skip-by 1 p)
   got (lexeme k (p .mark) (e .mark) e)
 
--- K6: at level 0, while the top entry ends in BlockEnd, a non-ending entry with indent + 1 is stacked
+-- K6: at level 0, while the top entry ends in BlockEnd, a non-ending entry with indent + 1 is stacked [A4]
 unfoldable pub stack-bracket : Limits → State → Read State
 stack-bracket limits s =
     elim (not (in-flow s) && top-ends (s .indents .entries)) [
@@ -36,7 +36,7 @@ stack-bracket limits s =
       | false ↦ got s
     ]
 
--- K6: '[' or '{' saves a candidate and allows one. 28: the 256th flow level
+-- K6: '[' or '{' saves a candidate and allows one. 28: the 256th flow level [A5]
 unfoldable pub fetch-flow-collection-start : Limits → Bool → State → Read News
 fetch-flow-collection-start limits sequence s₀ = do
   s ← stack-bracket limits (save-key s₀)
@@ -54,7 +54,7 @@ unfoldable pub implicit-open : List Level → Bool
 implicit-open [] = false
 implicit-open (l ∷ ls) = l .implicit
 
--- K6: ']' or '}'. 47: not the latest open one's kind, or none is open
+-- K6: ']' or '}'. 47: not the latest open one's kind, or none is open [A3, C9]
 unfoldable pub fetch-flow-collection-end : Bool → State → Read News
 fetch-flow-collection-end sequence s₀ = do
   _ ← need (closes-level sequence (s₀ .levels)) 47 (mark-of s₀)
@@ -63,10 +63,9 @@ fetch-flow-collection-end sequence s₀ = do
   emit (empty-if (implicit-open (s .levels)) FlowMappingEnd (mark-of s) ++ (put (l .token) ∷ []))
       (adjacent-here (at-place (l .place) false (allow false (with-keys (drop 1 (s .keys)) (with-levels (drop 1 (s .levels)) s)))))
 
--- a new entry of the level: no ':' and no '?' came in it
-unfoldable pub new-entry : List Level → List Level
-new-entry [] = []
-new-entry (l ∷ ls) = new-level (l .sequence) ∷ ls
+-- a new entry of the level: no ':' and no '?' came in it [C6]
+abbrev pub new-entry : List Level → List Level
+new-entry ls = on-level (λ l. new-level (l .sequence)) ls
 
 -- K6: ',' in flow removes the candidate and allows one
 unfoldable pub fetch-flow-entry : State → Read News

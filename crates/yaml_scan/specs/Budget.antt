@@ -49,7 +49,7 @@ unfolding run
 run-ends limits zero s h = absurd (not-suc-le-zero h)
 run-ends limits (suc k) s h =
     on-news (λ r. Ends (after-step r (λ t. run limits k t))) (step-news [] limits s)
-    (λ es t i. after-events-end es (run limits k t) (run-ends limits k t (omega (arith, i .0)))) (λ _ _. tt) (λ _ _. tt)
+    (λ es t i. after-events-end es (run limits k t) (run-ends limits k t (omega (arith, i .takes)))) (λ _ _. tt) (λ _ _. tt)
 
 -- one more changes nothing
 pub run-stable : (limits : Limits) (k : ℕ) (s : State) → left (s .place) < k → run limits (suc k) s ≡ run limits k s
@@ -57,7 +57,7 @@ unfolding run
 run-stable limits zero s h = absurd (not-suc-le-zero h)
 run-stable limits (suc k) s h =
     on-news (λ r. after-step r (λ t. run limits (suc k) t) ≡ after-step r (λ t. run limits k t)) (step-news [] limits s)
-    (λ es t i. ap (λ (o : Outcome). after-events es o) (run-stable limits k t (omega (arith, i .0)))) (λ _ _. refl) (λ _ _. refl)
+    (λ es t i. ap (λ (o : Outcome). after-events es o) (run-stable limits k t (omega (arith, i .takes)))) (λ _ _. refl) (λ _ _. refl)
 
 -- so any budget above the characters left gives the same
 pub run-enough : (limits : Limits) (k : ℕ) (s : State) → left (s .place) < k → run limits k s ≡ run limits (suc (left (s .place))) s
@@ -124,7 +124,7 @@ unfolding run
 run-placed limits zero ms s h = tt
 run-placed limits (suc k) ms s h =
     on-news (λ r. PlacedIn ms (after-step r (λ t. run limits k t))) (step-news ms limits s)
-    (λ es t i. let j = i .2 h in after-events-placed ms es (run limits k t) (j .0) (run-placed limits k (starts ms es) t (j .1)))
+    (λ es t i. let j = i .sound h in after-events-placed ms es (run limits k t) (j .0) (run-placed limits k (starts ms es) t (j .1)))
     (λ es i. i h) (λ _ _. tt)
 
 -- StreamStart was given

@@ -36,7 +36,7 @@ fetch-flow-scalar single s = do
   l ← scan-flow-scalar (in-flow s) single (s .indents .indent) (s .place)
   emit (put (l .token) ∷ []) (adjacent-here (at-place (l .place) false (allow false (save-key s))))
 
--- its indent is the block's own: the entries that K6 stacked go first
+-- its indent is the block's own: the entries that K6 stacked go first [A2, B8]
 unfoldable pub fetch-block-scalar : Bool → State → Read News
 fetch-block-scalar literal s = do
   let i = drop-non-ending (s .indents .indent) (s .indents .entries)
@@ -53,21 +53,21 @@ fetch-anchor alias s = do
   l ← scan-anchor alias (s .place)
   emit-lexeme l false (allow false (save-key s))
 
--- outside every block, without the candidate
+-- outside every block, without the candidate [B4]
 unfoldable pub leave-blocks : State → Read State
 leave-blocks s = remove-key (with-indents (unroll-to 0 s .indents) s)
 
 abbrev pub all-ends : State → List Event
 all-ends s = block-ends (unroll-to 0 s .ended) (mark-of s)
 
--- at column 0 and level 0; the directive's own break allows no simple key
+-- at column 0 and level 0; the directive's own break allows no simple key [B1]
 unfoldable pub fetch-directive : State → Read News
 fetch-directive s₀ = do
   s ← leave-blocks s₀
   l ← scan-directive (s .place)
   emit (all-ends s₀ ++ (put (l .token) ∷ [])) (at-place (l .place) true (allow false s))
 
--- at column 0 and level 0, which it leaves as they are; a simple key is allowed behind it
+-- at column 0 and level 0, which it leaves as they are; a simple key is allowed behind it [B3, I4]
 unfoldable pub fetch-byte-order-mark : State → Read News
 fetch-byte-order-mark s₀ = do
   s ← leave-blocks s₀
@@ -83,7 +83,7 @@ after-marker starts p =
       | false ↦ blanks-and-comment p >>= λ e. need (isBreakz (look e)) 49 (e .mark) >>= λ _. got e
     ]
 
--- 47: a document marker in flow
+-- 47: a document marker in flow [B2]
 unfoldable pub fetch-document-indicator : Bool → State → Read News
 fetch-document-indicator starts s₀ = do
   _ ← need (not (in-flow s₀)) 47 (mark-of s₀)
@@ -97,7 +97,7 @@ fetch-document-indicator starts s₀ = do
 unfoldable pub forced : Mark → Mark
 forced m = pick (eqb (m .col) 0) m (record { index = m .index; line = m .line + 1; col = 0 })
 
--- 47: a bracket left open; then 41: a required key is pending
+-- 47: a bracket left open; then 41: a required key is pending [J5, J6]
 unfoldable pub fetch-stream-end : State → Read News
 fetch-stream-end s = do
   _ ← need (not (in-flow s)) 47 (mark-of s)
@@ -127,7 +127,7 @@ indicator flow colon c n =
     (pick (among c (at-sign ∷ '`' ∷ '%' ∷ byte-order-mark ∷ [])) Stray
     AtPlain))))))))))))))))
 
--- K3: the end; at column 0 document markers; at column 0 and level 0 '%' and BOM; then 42; then the indicator
+-- K3: the end; at column 0 document markers; at column 0 and level 0 '%' and BOM; then 42; then the indicator [H6, H7, I3, J3]
 unfoldable pub choice : State → Choice
 choice s =
     let c = look (s .place) in

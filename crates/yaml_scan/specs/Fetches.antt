@@ -24,9 +24,9 @@ use Rattle.yaml_scan.specs.declared.Level.{Level}
 use Rattle.yaml_scan.specs.Indent.{Indents, drop-non-ending, stack, top-ends}
 use Rattle.yaml_scan.specs.Keys.{remove, top-key}
 use Rattle.yaml_scan.specs.declared.Limits.{Limits}
-use Rattle.yaml_scan.specs.State.{Event, News, State, allow, at-place, block-ends, counting, empty-if, ends-with, goes-on, in-flow, mark-of, put, put-before, puts, remove-key, save-key, unroll-to, with-indents}
-use Rattle.yaml_scan.specs.Bracket.{closes-level, fetch-flow-collection-end, fetch-flow-collection-start, fetch-flow-entry, implicit-open, new-entry, scan-bracket, stack-bracket}
-use Rattle.yaml_scan.specs.Value.{before-key, begins-pair, colon-seen, fetch-block-entry, fetch-key, questioned, roll-state, value-by, value-with, value-without}
+use Rattle.yaml_scan.specs.State.{Event, News, State, allow, at-place, block-ends, counting, empty-if, ends-with, goes-on, in-flow, mark-of, on-level, put, put-before, puts, remove-key, save-key, unroll-to, with-indents}
+use Rattle.yaml_scan.specs.Bracket.{closes-level, fetch-flow-collection-end, fetch-flow-collection-start, fetch-flow-entry, implicit-open, scan-bracket, stack-bracket}
+use Rattle.yaml_scan.specs.Value.{before-key, begins-pair, fetch-block-entry, fetch-key, roll-state, value-by, value-with, value-without}
 use Rattle.yaml_scan.specs.Choice.{after-marker, fetch-anchor, fetch-block-scalar, fetch-byte-order-mark, fetch-directive, fetch-document-indicator, fetch-flow-scalar, fetch-plain-scalar, fetch-stream-end, fetch-tag, forced, leave-blocks}
 use Rattle.yaml_scan.specs.Candidates.{ready, late, AllKnown, EmptyAt, Known, Placed, Ready, ReadyState, Sound, known-next, placed-append, placed-ends, placed-if, set-ready, starts, starts-length, stays-known, without-key}
 
@@ -59,8 +59,14 @@ kept : {ms : List Mark} {n : ℕ} {ks : List Candidate} {ls : List Level} {p : P
 kept {ms} {ks} es h r =
     record { placed = h; counted = ap (λ (k : ℕ). k + puts es) (r .counted); levelled = r .levelled; known = stays-known ms es ks (r .known) }
 
-relevelled : {ms : List Mark} {es : List Event} {n : ℕ} {ks : List Candidate} {ls ls' : List Level} → length ls' ≡ length ls → Told ms es n ks ls → Told ms es n ks ls'
-relevelled e k = record { placed = k .placed; counted = k .counted; levelled = k .levelled ∙ ap suc (sym e); known = k .known }
+-- where a level is changed besides
+relevelled : {ms : List Mark} {es : List Event} {n : ℕ} {ks : List Candidate} {ls : List Level} (f : Level → Level) → Told ms es n ks ls → Told ms es n ks (on-level f ls)
+unfolding on-level
+relevelled {ls} f k = record { placed = k .placed; counted = k .counted; levelled = k .levelled ∙ ap suc (same-length ls); known = k .known }
+  where
+    same-length : (ls : List Level) → length ls ≡ length (on-level f ls)
+    same-length [] = refl
+    same-length (l ∷ ls) = refl
 
 -- where a candidate is saved for the token that is given
 saved : {ms : List Mark} (s : State) (t : Token) → t .start ≡ mark-of s → ReadyState ms s
@@ -142,16 +148,11 @@ flow-collection-end-news ms sequence s =
     let k = kept _ (placed-two ms (implicit-open (s .levels)) FlowMappingEnd (mark-of s) (l .token)) (set-ready Absent h tt) in
     record { placed = k .placed; counted = k .counted; levelled = omega (arith, length-drop 1 (s .keys), length-drop 1 (s .levels)); known = k .known .1 }))))
 
-new-entry-length : (ls : List Level) → length (new-entry ls) ≡ length ls
-unfolding new-entry
-new-entry-length [] = refl
-new-entry-length (l ∷ ls) = refl
-
 pub flow-entry-news : (ms : List Mark) (s : State) → All News (Fetched ms s) (fetch-flow-entry s)
 unfolding fetch-flow-entry
 flow-entry-news ms s =
     all-is _ (remove-key-is s) (all-bind _ (bracket-fit _ (s .place))
-    (λ l r. said (r .onward) (λ h. relevelled (new-entry-length (s .levels))
+    (λ l r. said (r .onward) (λ h. relevelled _
     (kept _ (placed-two ms (implicit-open (s .levels)) FlowMappingEnd (mark-of s) (l .token)) (set-ready Absent h tt)))))
 
 -- '-', '?' and ':'
@@ -163,23 +164,13 @@ block-entry-news ms limits s =
     (λ r _. all-is _ (remove-key-is (with-indents (r .indents) s))
     (said (fits-refl _) (λ h. kept _ (placed-two ms (r .starts) BlockSequenceStart (mark-of s) _) (set-ready Absent h tt)))))
 
-questioned-length : (ls : List Level) → length (questioned ls) ≡ length ls
-unfolding questioned
-questioned-length [] = refl
-questioned-length (l ∷ ls) = refl
-
 pub key-news : (ms : List Mark) (limits : Limits) (s : State) → All News (Fetched ms s) (fetch-key limits s)
 unfolding fetch-key
 key-news ms limits s =
     all-need _ 46 (mark-of s) _ (all-bind _ (all-any (roll-state limits (mark-of s) s))
     (λ r _. all-is _ (remove-key-is (with-indents (r .indents) s))
-    (said (fits-refl _) (λ h. relevelled (questioned-length (s .levels))
+    (said (fits-refl _) (λ h. relevelled _
     (kept _ (placed-two ms (r .starts) BlockMappingStart (mark-of s) _) (set-ready Absent h tt))))))
-
-colon-seen-length : (ls : List Level) → length (colon-seen ls) ≡ length ls
-unfolding colon-seen
-colon-seen-length [] = refl
-colon-seen-length (l ∷ ls) = refl
 
 all-empty : {m : Mark} (k : Mark) (kinds : List Kind) → m ≡ k → EmptyAt m (map (λ (kind : Kind). empty-token kind k) kinds)
 all-empty k [] e = tt
@@ -191,14 +182,14 @@ unfolding value-with
 value-with-news ms limits n k s f =
     all-bind _ (all-any (roll-state limits k s))
     (λ r _. said (fits-refl _) (λ h. let i = f h in
-    relevelled (colon-seen-length (s .levels))
+    relevelled _
     (kept _ (placed-before ms n _ _ (i .0) (all-empty k (before-key (begins-pair (s .levels)) (r .starts)) (i .1))) (set-ready Absent h tt))))
 
 pub value-without-news : (ms : List Mark) (limits : Limits) (s : State) → All News (Fetched ms s) (value-without limits s)
 unfolding value-without
 value-without-news ms limits s =
     all-need _ 46 (mark-of s) _ (all-bind _ (all-any (roll-state limits (mark-of s) s))
-    (λ r _. said (fits-refl _) (λ h. relevelled (colon-seen-length (s .levels))
+    (λ r _. said (fits-refl _) (λ h. relevelled _
     (kept _ (placed-three ms (begins-pair (s .levels)) FlowMappingStart (r .starts) BlockMappingStart (mark-of s) _) (set-ready Absent h tt)))))
 
 pub value-by-news : (ms : List Mark) (limits : Limits) (k : Candidate) (s : State) → (ReadyState ms s → Known ms k) → All News (Fetched ms s) (value-by limits k s)

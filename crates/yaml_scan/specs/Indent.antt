@@ -44,7 +44,7 @@ unroll edge i (e ∷ es) =
       | false ↦ record { ended = 0; indents = indents-of i (e ∷ es) }
     ]
 
--- 48: the 256th entry
+-- 48: the 256th entry [A7]
 unfoldable pub stack : ℕ → Mark → ℕ → Bool → Indents → Read Indents
 stack room m i ends s =
     elim (ltb (length (s .entries)) room) [
@@ -79,7 +79,7 @@ roll-at room flow m edge s =
       | false ↦ roll room m edge s
     ]
 
--- the entries that end no block go, as unroll_non_block_indents has it for a block scalar
+-- the entries that end no block go, as unroll_non_block_indents has it for a block scalar [A2]
 unfoldable pub drop-non-ending : ℕ → List Entry → Indents
 drop-non-ending i [] = indents-of i []
 drop-non-ending i (e ∷ es) =

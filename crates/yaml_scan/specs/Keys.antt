@@ -17,16 +17,16 @@ top-key (k ∷ ks) = k
 abbrev pub set-key : Candidate → List Candidate → List Candidate
 set-key k ks = k ∷ drop 1 ks
 
--- 41: a required key is removed
+-- 41: a required key is removed [B11]
 unfoldable pub remove : Mark → Candidate → Read Candidate
 remove m Absent = got Absent
 remove m (Possible required n k) = need (not required) 41 m >>= λ _. got Absent
 
--- the line of the candidate's mark k is over at the mark m, or 1,024 characters are
+-- the line of the candidate's mark k is over at the mark m, or 1,024 characters are [B12]
 unfoldable pub stale : Mark → Mark → Bool
 stale k m = ltb (k .line) (m .line) || ltb (k .index + 1024) (m .index)
 
--- at level 0, before each token; 41: a required key lapses
+-- at level 0, before each token; 41: a required key lapses [B5, B6]
 unfoldable pub lapse : Mark → Candidate → Read Candidate
 lapse m Absent = got Absent
 lapse m (Possible required n k) =

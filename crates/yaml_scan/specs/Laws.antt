@@ -1,23 +1,40 @@
--- Laws of the run and the answer: one step; the rooms keep their lengths.
+-- Laws of the step, the run and the answer: what goes in before a key; one step; the rooms keep their lengths.
 use Prim.Native.Nat.{_-_, _/_, _≤_, suc, ℕ}
-use mathlib.Core.List.{List}
-use mathlib.Core.Path.{_≡_, refl}
+use mathlib.Core.Bool.{false, true}
+use mathlib.Core.List.{List, [], _∷_}
+use mathlib.Core.Path.{_≡_, refl, sym}
 use native.Mathlib.Omega.{arith}
 use lib.Dec.{ltb}
 use lib.ListN.{length, length-append, length-replicate, replicate}
-use Rattle.yaml_text.specs.Mark.{origin}
+use Rattle.yaml_text.specs.declared.Mark.{Mark}
+use Rattle.yaml_text.specs.Mark.{edge-of, origin}
+use Rattle.yaml_text.specs.Refusal.{got}
 use Rattle.yaml_lexeme.specs.Token.{Token, texts}
 use Rattle.yaml_lexeme.specs.Held.{records}
+use Rattle.yaml_scan.specs.declared.Level.{Level}
+use Rattle.yaml_scan.specs.Indent.{roll-at}
 use Rattle.yaml_scan.specs.declared.Limits.{Limits}
-use Rattle.yaml_scan.specs.State.{State}
+use Rattle.yaml_scan.specs.State.{State, in-flow, mark-of}
+use Rattle.yaml_scan.specs.Value.{begins-pair, roll-state}
 use Rattle.yaml_scan.specs.Scan.{Outcome, Verdict, after-step, answer, answer-for, lent, no-verdict, outcome, refusal, run, scanned, settled, spent, step, stopped, Answer, blank-answer, filled}
 use borrow.Author.Tests.{ltb-false}
-use Rattle.yaml_text.specs.Test.{by-test}
+use Rattle.yaml_text.specs.Test.{by-test, true-false}
 use Rattle.yaml_lexeme.specs.TokenLaws.{records-length}
 
 pub run-turned : (limits : Limits) (k : ℕ) (s : State) → run limits (suc k) s ≡ after-step (step limits s) (λ s'. run limits k s')
 unfolding run
 run-turned limits k s = refl
+
+-- where a pair begins nothing rolls, so at most one start goes in
+pub pair-rolls-none : (limits : Limits) (m : Mark) (s : State) → begins-pair (s .levels) ≡ true
+    → roll-state limits m s ≡ got (record { starts = false; indents = s .indents })
+unfolding roll-at in-flow begins-pair
+pair-rolls-none limits m s e = by-levels (s .levels) e
+  where
+    by-levels : (ls : List Level) → begins-pair ls ≡ true
+        → roll-at (limits .entries) (elim ls [ [] ↦ false | x ∷ xs ↦ true ]) (mark-of s) (edge-of m) (s .indents) ≡ got (record { starts = false; indents = s .indents })
+    by-levels [] f = true-false (sym f)
+    by-levels (l ∷ ls) f = refl
 
 -- the rooms keep their lengths, and a record is 12 words
 

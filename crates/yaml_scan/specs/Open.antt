@@ -10,7 +10,7 @@ use Rattle.yaml_text.specs.Decode.{decode}
 use Rattle.yaml_lexeme.specs.Gap.{blanks, blanks-and-comment, comment-after, gap-turn, isLeading, on-blank, on-hash, on-other, skip-gap, to-break}
 use Rattle.yaml_scan.specs.Indent.{drop-for, drop-non-ending, roll, roll-at, stack, top-ends, unroll}
 use Rattle.yaml_scan.specs.Keys.{lapse, remove, stale, top-key}
-use Rattle.yaml_scan.specs.State.{in-flow, lapse-key, puts, remove-key, save-key}
+use Rattle.yaml_scan.specs.State.{in-flow, lapse-key, on-level, puts, remove-key, save-key}
 use Rattle.yaml_lexeme.specs.Plain.{glue, plain-stops, plain-text, scan-plain-scalar}
 use Rattle.yaml_lexeme.specs.Escape.{escape, escape-of, hex-number, named}
 use Rattle.yaml_lexeme.specs.Quoted.{broken, fits-after, folds-to, quoted-blank, quoted-break, quoted-char, quoted-line, quoted-run, quoted-text, quoted-turn, scan-flow-scalar}
@@ -18,8 +18,8 @@ use Rattle.yaml_lexeme.specs.Block.{block-content, chomped, chomping-of, conten
 use Rattle.yaml_lexeme.specs.Tag.{code-point, handled, octet, percent, primary, scan-tag, tag-texts, trailing, uri-run, verbatim}
 use Rattle.yaml_lexeme.specs.Anchor.{scan-anchor}
 use Rattle.yaml_lexeme.specs.Directive.{directive-of, parameters, reserved-directive, scan-directive, tag-directive, tag-handle, tag-prefix, version-digits, version-directive, version-number}
-use Rattle.yaml_scan.specs.Bracket.{closes-level, fetch-flow-collection-end, fetch-flow-collection-start, fetch-flow-entry, has-level-room, implicit-open, new-entry, scan-bracket, stack-bracket}
-use Rattle.yaml_scan.specs.Value.{begins-pair, colon-seen, fetch-block-entry, fetch-key, questioned, takes-colon, value-by, value-with, value-without}
+use Rattle.yaml_scan.specs.Bracket.{closes-level, fetch-flow-collection-end, fetch-flow-collection-start, fetch-flow-entry, has-level-room, implicit-open, scan-bracket, stack-bracket}
+use Rattle.yaml_scan.specs.Value.{begins-pair, fetch-block-entry, fetch-key, takes-colon, value-by, value-with, value-without}
 use Rattle.yaml_scan.specs.Choice.{after-marker, choice, fetch, fetch-anchor, fetch-block-scalar, fetch-byte-order-mark, fetch-directive, fetch-document-indicator, fetch-flow-scalar, fetch-plain-scalar, fetch-stream-end, fetch-tag, forced, indicator, leave-blocks}
 use Rattle.yaml_scan.specs.Scan.{answer, answer-for, lent, noted, outcome, run, scan, settled, step, to-next-token, unrolled}
 
@@ -27,14 +27,14 @@ unfoldable pub all-open : ℕ
 unfolding isTail lenOf isScalar two three four byLen first bytesOf encode among isZ isBreak isBreakz isBlank isBlankOrBreakz isFlow isBom isDigit isHex asHex
     isAlpha isWord isUri isTag isNonSpace isAnchor same none-left halfBreak over ends-line break-length skip-break isMarker word kind-bytes texts
     number-of style-number values-of record-of laid records _>>=_ need before-read on-blank on-hash on-other gap-turn isLeading skip-gap blanks
-    to-break comment-after blanks-and-comment top-ends unroll stack drop-for roll roll-at drop-non-ending top-key remove stale lapse in-flow save-key
+    to-break comment-after blanks-and-comment top-ends unroll stack drop-for roll roll-at drop-non-ending top-key remove stale lapse in-flow on-level save-key
     remove-key lapse-key puts plain-stops glue plain-text scan-plain-scalar named hex-number escape-of escape folds-to quoted-blank broken quoted-break
     quoted-char quoted-line quoted-text quoted-turn quoted-run fits-after scan-flow-scalar increment-of isChomp chomping-of indicators largest
     content-column margin opens-content separator lines-on opening-turn content-turn own-break lines-after chomped content no-content block-content
     scan-block-scalar octet trailing code-point percent uri-run verbatim handled primary tag-texts scan-tag scan-anchor version-digits version-number
     version-directive tag-handle tag-prefix tag-directive parameters reserved-directive directive-of scan-directive has-level-room scan-bracket
-    stack-bracket fetch-flow-collection-start closes-level implicit-open fetch-flow-collection-end new-entry fetch-flow-entry fetch-block-entry questioned
-    fetch-key takes-colon begins-pair colon-seen value-with value-without value-by fetch-plain-scalar fetch-flow-scalar fetch-block-scalar fetch-tag
+    stack-bracket fetch-flow-collection-start closes-level implicit-open fetch-flow-collection-end fetch-flow-entry fetch-block-entry
+    fetch-key takes-colon begins-pair value-with value-without value-by fetch-plain-scalar fetch-flow-scalar fetch-block-scalar fetch-tag
     fetch-anchor leave-blocks fetch-directive fetch-byte-order-mark after-marker fetch-document-indicator forced fetch-stream-end indicator choice fetch
     to-next-token unrolled step run scan noted settled decode lent answer-for outcome answer
 all-open = 0

@@ -105,9 +105,14 @@ next-news ms limits s =
 
 -- a step
 
--- from the state s, after tokens that start at the marks ms
+-- from the state s, after tokens that start at the marks ms, on to the state t
+pub record Goes (ms : List Mark) (s : State) (es : List Event) (t : State) : Type 0 where
+  pub takes : left (t .place) < left (s .place)
+  pub onward : Fits (s .place) (t .place)
+  pub sound : Sound ms s → Placed ms es × Sound (starts ms es) t
+
 abbrev pub Stepped : List Mark → State → News → Type 0
-Stepped ms s (goes-on es t) = (left (t .place) < left (s .place)) × Fits (s .place) (t .place) × (Sound ms s → Placed ms es × Sound (starts ms es) t)
+Stepped ms s (goes-on es t) = Goes ms s es t
 Stepped ms s (ends-with es) = Sound ms s → Placed ms es
 
 puts-ends : (n : ℕ) (m : Mark) → puts (block-ends n m) ≡ n
@@ -126,11 +131,12 @@ ends-ready {ms} {ks} n m r =
 stepped : (ms : List Mark) (s t : State) (n : ℕ) (i : Indents) → Fits (s .place) (t .place) → (Sound ms s → ReadyState ms t) → (w : News)
     → Next (starts ms (block-ends n (mark-of t))) (counting n (with-indents i t)) w → Stepped ms s (preceded (block-ends n (mark-of t)) w)
 stepped ms s t n i f r (goes-on es u) h =
-    let bs = block-ends n (mark-of t) in (
-      omega (arith, fits-left f, h .0),
-      fits-trans f (h .1),
-      λ k. let j = h .2 (ends-ready n (mark-of t) (r k)) in (placed-append ms bs es (placed-ends ms n (mark-of t)) (j .0), rw (starts-append ms bs es) (j .1)),
-    )
+    let bs = block-ends n (mark-of t) in
+    record {
+      takes = omega (arith, fits-left f, h .0);
+      onward = fits-trans f (h .1);
+      sound = λ k. let j = h .2 (ends-ready n (mark-of t) (r k)) in (placed-append ms bs es (placed-ends ms n (mark-of t)) (j .0), rw (starts-append ms bs es) (j .1));
+    }
 stepped ms s t n i f r (ends-with es) h =
     λ k. placed-append ms (block-ends n (mark-of t)) es (placed-ends ms n (mark-of t)) (h (ends-ready n (mark-of t) (r k)))
 
@@ -160,8 +166,8 @@ reached ms h here = record { onward = fits-refl _; placed = tt; sound = h }
 reached {limits} ms h (then-step {es = es} {fs = fs} {t = t} r e) =
     let k = reached ms h r in
     let n = all-got (step-news (starts ms es) limits t) e in
-    let j = n .2 (k .sound) in
-    record { onward = fits-trans (k .onward) (n .1); placed = placed-append ms es fs (k .placed) (j .0); sound = rw (starts-append ms es fs) (j .1) }
+    let j = n .sound (k .sound) in
+    record { onward = fits-trans (k .onward) (n .onward); placed = placed-append ms es fs (k .placed) (j .0); sound = rw (starts-append ms es fs) (j .1) }
 
 -- in a text from its first character on, a place has as many characters behind it as its index says
 pub reached-place : {limits : Limits} {es : List Event} {t : State} (cs : List ℕ) → Sound (origin ∷ []) (begin cs) → Reaches limits (begin cs) es t

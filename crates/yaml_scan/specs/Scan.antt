@@ -19,13 +19,13 @@ use Rattle.yaml_scan.specs.declared.Limits.{Limits}
 use Rattle.yaml_scan.specs.State.{Event, News, State, allow, at-place, block-ends, counting, ends-with, goes-on, in-flow, lapse-key, mark-of, preceded, put, put-before, rest-of, unroll-to, with-indents}
 use Rattle.yaml_scan.specs.Choice.{fetch-next}
 
--- K1, K2: the gap, then the lapse
+-- K1, K2: the gap, then the lapse [J2]
 unfoldable pub to-next-token : State → Read State
 to-next-token s = do
   g ← skip-gap (in-flow s) (s .allowed) (pick (s .leads) Leading AfterText) (mark-of s) (rest-of s)
   lapse-key (at-place (g .place) (g .leads) (allow (g .allowed) s))
 
--- unroll_indent to the column; in flow nothing ends
+-- unroll_indent to the column; in flow nothing ends [A1, J1]
 unfoldable pub unrolled : State → Unrolled
 unrolled s = elim (in-flow s) [
   | true ↦ record { ended = 0; indents = s .indents }
@@ -71,7 +71,7 @@ begin cs =
 unfoldable pub scan : Limits → List ℕ → Outcome
 scan limits cs = after-events (put (empty-token StreamStart origin) ∷ []) (run limits (suc (length cs)) (begin cs))
 
--- the tokens that go in before token n, after these events: as noted so far, until an event says it
+-- the tokens that go in before token n, after these events: as noted so far, until an event says it. (A candidate is used up once, so at most one does.)
 unfoldable pub noted : ℕ → List Token → List Event → List Token
 noted n ts [] = ts
 noted n ts (put t ∷ es) = noted n ts es

@@ -4,9 +4,11 @@ use mathlib.Core.List.{List, [], _++_, _∷_}
 use mathlib.Core.Path.{_∙_, _≡_, ap, refl, sym}
 use native.Mathlib.Omega.{arith}
 use borrow.Author.Tests.{eq-eqb, ne-eqb}
+use Rattle.yaml_text.specs.declared.Mark.{Mark}
 use Rattle.yaml_lexeme.specs.Token.{Token}
 use Rattle.yaml_scan.specs.State.{Event, put, put-before}
 use Rattle.yaml_scan.specs.Scan.{noted, settled}
+use Rattle.yaml_scan.specs.Candidates.{starts}
 
 pub record Slot : Type 0 where
   pub token : Token
@@ -75,3 +77,26 @@ all-noted xs (put-before n ts ∷ es) = all-noted (note n ts xs) es ∙ noted-th
 pub sunk-settled : (es : List Event) → flat (sunk [] es) ≡ settled 0 es
 unfolding ends-as
 sunk-settled es = all-noted [] es
+
+-- the slots hold the tokens that were given: so where an event is placed (Candidates), its note meets a slot, whose token starts where the noted tokens stand
+
+unfoldable pub marks : List Slot → List Mark
+marks [] = []
+marks (x ∷ xs) = x .token .start ∷ marks xs
+
+note-marks : (n : ℕ) (ts : List Token) (xs : List Slot) → marks (note n ts xs) ≡ marks xs
+unfolding note marks
+note-marks n ts [] = refl
+note-marks zero ts (x ∷ xs) = refl
+note-marks (suc n) ts (x ∷ xs) = ap (λ (ms : List Mark). x .token .start ∷ ms) (note-marks n ts xs)
+
+marks-more : (xs : List Slot) (t : Token) → marks (xs ++ (slot t [] ∷ [])) ≡ marks xs ++ (t .start ∷ [])
+unfolding marks
+marks-more [] t = refl
+marks-more (x ∷ xs) t = ap (λ (ms : List Mark). x .token .start ∷ ms) (marks-more xs t)
+
+pub sunk-marks : (xs : List Slot) (es : List Event) → marks (sunk xs es) ≡ starts (marks xs) es
+unfolding sunk starts
+sunk-marks xs [] = refl
+sunk-marks xs (put t ∷ es) = sunk-marks (xs ++ (slot t [] ∷ [])) es ∙ ap (λ (ms : List Mark). starts ms es) (marks-more xs t)
+sunk-marks xs (put-before n ts ∷ es) = sunk-marks (note n ts xs) es ∙ ap (λ (ms : List Mark). starts ms es) (note-marks n ts xs)

@@ -72,6 +72,11 @@ abbrev pub with-levels : List Level → State → State
 with-levels ls s =
     record { place = s .place; leads = s .leads; allowed = s .allowed; indents = s .indents; keys = s .keys; levels = ls; adjacent = s .adjacent; count = s .count }
 
+-- the innermost level changed; at level 0 there is none
+unfoldable pub on-level : (Level → Level) → List Level → List Level
+on-level f [] = []
+on-level f (l ∷ ls) = f l ∷ ls
+
 -- ':' stands directly after what was read up to here (K5)
 abbrev pub adjacent-here : State → State
 adjacent-here s =
@@ -81,7 +86,7 @@ abbrev pub counting : ℕ → State → State
 counting n s =
     record { place = s .place; leads = s .leads; allowed = s .allowed; indents = s .indents; keys = s .keys; levels = s .levels; adjacent = s .adjacent; count = s .count + n }
 
--- K2: the candidate of this level, saved as save_simple_key does; required at the block's own column
+-- K2: the candidate of this level, saved as save_simple_key does; required at the block's own column [B13]
 unfoldable pub save-key : State → State
 save-key s =
     let required = not (in-flow s) && eqb (s .indents .indent) (edge-of (mark-of s)) && top-ends (s .indents .entries) in
@@ -91,7 +96,7 @@ save-key s =
 unfoldable pub remove-key : State → Read State
 remove-key s = remove (mark-of s) (top-key (s .keys)) >>= λ k. got (with-keys (set-key k (s .keys)) s)
 
--- K2: the check before each token; in flow no candidate lapses
+-- K2: the check before each token; in flow no candidate lapses [B7]
 unfoldable pub lapse-key : State → Read State
 lapse-key s =
     elim (in-flow s) [

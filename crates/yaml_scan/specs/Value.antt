@@ -15,17 +15,17 @@ use Rattle.yaml_scan.specs.declared.Candidate.the-variants.{Possible, Ab
 use Rattle.yaml_scan.specs.Keys.{set-key, top-key}
 use Rattle.yaml_scan.specs.declared.Level.{Level}
 use Rattle.yaml_scan.specs.declared.Limits.{Limits}
-use Rattle.yaml_scan.specs.State.{News, State, allow, at-place, emit, empty-if, in-flow, mark-of, put, put-before, remove-key, rest-of, with-indents, with-keys, with-levels}
+use Rattle.yaml_scan.specs.State.{News, State, allow, at-place, emit, empty-if, in-flow, mark-of, on-level, put, put-before, remove-key, rest-of, with-indents, with-keys, with-levels}
 
 -- the one character here
 abbrev pub one-character : Kind → Place → Lexeme
 one-character k p = lexeme k (p .mark) (along (p .mark)) (skip-by 1 p)
 
--- K4: rolling to the column of the mark m; 48 is here
+-- K4: rolling to the column of the mark m; 48 is here [A6]
 abbrev pub roll-state : Limits → Mark → State → Read Rolled
 roll-state limits m s = roll-at (limits .entries) (in-flow s) (mark-of s) (edge-of m) (s .indents)
 
--- K4: '-'. 46: in flow, or no simple key is allowed
+-- K4: '-'. 46: in flow, or no simple key is allowed [D1, J4]
 unfoldable pub fetch-block-entry : Limits → State → Read News
 fetch-block-entry limits s₀ = do
   _ ← need (not (in-flow s₀) && s₀ .allowed) 46 (mark-of s₀)
@@ -35,11 +35,10 @@ fetch-block-entry limits s₀ = do
   emit (empty-if (r .starts) BlockSequenceStart (mark-of s) ++ (put (l .token) ∷ [])) (at-place (l .place) false (allow true s))
 
 -- '?' came in this entry
-unfoldable pub questioned : List Level → List Level
-questioned [] = []
-questioned (l ∷ ls) = record { sequence = l .sequence; colon = l .colon; question = true; implicit = l .implicit } ∷ ls
+abbrev pub questioned : List Level → List Level
+questioned ls = on-level (λ l. record { sequence = l .sequence; colon = l .colon; question = true; implicit = l .implicit }) ls
 
--- K4: '?'. 46: at level 0 no simple key is allowed
+-- K4: '?'. 46: at level 0 no simple key is allowed [B9, B10, D3]
 unfoldable pub fetch-key : Limits → State → Read News
 fetch-key limits s₀ = do
   _ ← need (in-flow s₀ || s₀ .allowed) 46 (mark-of s₀)
@@ -49,22 +48,21 @@ fetch-key limits s₀ = do
   emit (empty-if (r .starts) BlockMappingStart (mark-of s) ++ (put (l .token) ∷ []))
       (at-place (l .place) false (allow (not (in-flow s)) (with-levels (questioned (s .levels)) s)))
 
--- K5: before blank, break or end; in flow, before a flow indicator or directly after a quoted scalar's or closing bracket's span
+-- K5: before blank, break or end; in flow, before a flow indicator or directly after a quoted scalar's or closing bracket's span [C1 to C3, D2]
 unfoldable pub takes-colon : State → Bool
 takes-colon s =
     let n = peek (rest-of s) 1 in
     isBlankOrBreakz n || (in-flow s && (isFlow n || eqb (s .adjacent) (mark-of s .index + 1)))
 
--- K5: the first ':' of a sequence's entry, if no '?' came before it
+-- K5: the first ':' of a sequence's entry, if no '?' came before it [C7, C8]
 unfoldable pub begins-pair : List Level → Bool
 begins-pair [] = false
 begins-pair (l ∷ ls) = l .sequence && not (l .colon) && not (l .question)
 
 -- ':' came in this entry
-unfoldable pub colon-seen : List Level → List Level
-colon-seen [] = []
-colon-seen (l ∷ ls) =
-    record { sequence = l .sequence; colon = true; question = l .question; implicit = l .implicit || begins-pair (l ∷ ls) } ∷ ls
+abbrev pub colon-seen : List Level → List Level
+colon-seen ls =
+    on-level (λ l. record { sequence = l .sequence; colon = true; question = l .question; implicit = l .implicit || begins-pair ls }) ls
 
 abbrev pub kind-if : Bool → Kind → List Kind
 kind-if b k = pick b (k ∷ []) []
@@ -79,7 +77,7 @@ valued allowed i s =
     at-place (skip-by 1 (s .place)) false
     (allow allowed (with-indents i (with-keys (set-key Absent (s .keys)) (with-levels (colon-seen (s .levels)) s))))
 
--- K5: with a candidate, which is used up: an empty Key goes in before it, at its first character
+-- K5: with a candidate, which is used up: an empty Key goes in before it, at its first character [C4, C5]
 unfoldable pub value-with : Limits → ℕ → Mark → State → Read News
 value-with limits n k s = do
   r ← roll-state limits k s

@@ -10,7 +10,7 @@ use Rattle.yaml_text.specs.Class.{isZ, peek}
 use Rattle.yaml_text.specs.Mark.{over}
 use Rattle.yaml_text.specs.Refusal.{Read, _>>=_, got, need, refused}
 
--- 2 and 3: ill-formed UTF-8 and NUL, whichever stands earlier. (At a byte something stands, so it is never `End`.)
+-- 2 and 3: ill-formed UTF-8 and NUL, whichever stands earlier. (At a byte something stands, so it is never `End`.) [J7, J8]
 abbrev pub decoded-char : Decoded → Mark → (ℕ → ℕ → Read (List ℕ)) → Read (List ℕ)
 decoded-char (Char c n) m go =
     need (not (isZ c)) 3 m >>= λ _. go c (pred n) >>= λ cs. got (c ∷ cs)

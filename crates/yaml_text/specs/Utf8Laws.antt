@@ -1,18 +1,19 @@
 -- Laws of UTF-8: what a loop over characters cites, and that a decoded character encodes to the bytes that it was read from.
-use Prim.Native.Nat.{_%_, _*_, _+_, _<_, _≤_, pred, suc, zero, ℕ}
+use Prim.Native.Nat.{_%_, _*_, _+_, _<_, _≤_, min, pred, suc, zero, ℕ}
 use mathlib.Core.Bool.{Bool, _&&_, _||_, false, true}
 use mathlib.Core.List.{List, [], _∷_}
 use mathlib.Core.Path.{_∙_, _≡_, ap, refl, sym}
 use native.Mathlib.Omega.{arith}
 use lib.Dec.{leb, ltb}
-use lib.ListN.{drop, drop-of-length-le, getD, length, take}
+use lib.ListN.{drop, drop-of-length-le, getD, length, length-take, take}
 use lib.Seq.{drop-cons, getD-drop}
 use borrow.Author.Tests.{le-ltb, leb-true, lt-ltb, ltb-false, ltb-true}
 use Rattle.yaml_text.specs.declared.Decoded.{Decoded}
 use Rattle.yaml_text.specs.declared.Decoded.the-variants.{Char, End, Ill}
-use Rattle.yaml_text.specs.Pick.{pick}
-use Rattle.yaml_text.specs.Test.{both-true}
+use Rattle.yaml_text.specs.Test.{both-true, on-pick}
 use Rattle.yaml_text.specs.Utf8.{byLen, bytesOf, charIf, chars, charsAfter, first, four, isScalar, isTail, lenOf, more, three, two}
+
+-- the character at a place
 
 pub first-past : (s : List ℕ) (at : ℕ) → length s ≤ at → first (drop at s) ≡ End
 unfolding first
@@ -35,37 +36,7 @@ byLen-four (suc (suc zero)) a b c d h0 h1 h2 h3 = absurd (h2 refl)
 byLen-four (suc (suc (suc zero))) a b c d h0 h1 h2 h3 = absurd (h3 refl)
 byLen-four (suc (suc (suc (suc n)))) a b c d h0 h1 h2 h3 = refl
 
-pub after-drop : (k : ℕ) (l : List ℕ) → charsAfter k l ≡ chars (drop k l)
-unfolding charsAfter
-after-drop zero l = refl
-after-drop (suc k) [] = refl
-after-drop (suc k) (a ∷ t) = after-drop k t
-
--- a list that begins with the character c of n bytes
-pub chars-char : (l : List ℕ) (c n : ℕ) → first l ≡ Char c (suc n) → chars l ≡ c ∷ chars (drop (suc n) l)
-unfolding charsAfter first
-chars-char [] c n e = let z : _≡_ {A = ℕ} 0 1 = cc in absurd (omega arith)
-chars-char (a ∷ t) c n e = ap (λ (d : Decoded). more d (λ m. charsAfter m t)) e ∙ ap (λ (m : List ℕ). c ∷ m) (after-drop n t)
-
-pub chars-none : (l : List ℕ) → first l ≡ Ill → chars l ≡ []
-unfolding charsAfter first
-chars-none [] e = refl
-chars-none (a ∷ t) e = ap (λ (d : Decoded). more d (λ m. charsAfter m t)) e
-
-pub chars-end : (l : List ℕ) → first l ≡ End → chars l ≡ []
-unfolding charsAfter first
-chars-end [] e = refl
-chars-end (a ∷ t) e = ap (λ (d : Decoded). more d (λ m. charsAfter m t)) e
-
--- a character takes one to four bytes, and no more than there are
-abbrev pub Fit : Decoded → ℕ → Type 0
-Fit (Char c n) m = (1 ≤ n) × (n ≤ 4) × (n ≤ m)
-Fit Ill m = Unit {0}
-Fit End m = Unit {0}
-
-fit-if : (p : Bool) (v n m : ℕ) → (1 ≤ n) × (n ≤ 4) × (n ≤ m) → Fit (charIf p v n) m
-fit-if true v n m h = h
-fit-if false v n m h = tt
+-- what is read as a character are its bytes
 
 both-false : (p : Bool) → (p && false) ≡ false
 both-false true = refl
@@ -83,87 +54,9 @@ pub four-no : (a b c d : ℕ) → isTail d ≡ false → four a b c d ≡ Ill
 unfolding four
 four-no a b c d e = simp (e, both-false)
 
-two-fit : (a b m : ℕ) → 2 ≤ m → Fit (two a b) m
-unfolding two
-two-fit a b m h = let v = a % 32 * 64 + b % 64 in fit-if (((isTail b) && (isScalar 0x80 v))) v 2 m (omega arith)
-
-three-fit : (a b c m : ℕ) → 3 ≤ m → Fit (three a b c) m
-unfolding three
-three-fit a b c m h =
-    let v = a % 16 * 4096 + b % 64 * 64 + c % 64 in
-    fit-if (((isTail b) && (((isTail c) && (isScalar 0x800 v))))) v 3 m (omega arith)
-
-four-fit : (a b c d m : ℕ) → 4 ≤ m → Fit (four a b c d) m
-unfolding four
-four-fit a b c d m h =
-    let v = a % 8 * 262144 + b % 64 * 4096 + c % 64 * 64 + d % 64 in
-    fit-if (((isTail b) && (((isTail c) && (((isTail d) && (isScalar 0x10000 v))))))) v 4 m (omega arith)
-
 pub tail0 : isTail 0 ≡ false
 unfolding isTail
 tail0 = refl
-
-fit-by : (k a : ℕ) (t : List ℕ) → Fit (byLen k a (getD t 0 0) (getD t 1 0) (getD t 2 0)) (suc (length t))
-unfolding byLen
-fit-by zero a t = tt
-fit-by (suc zero) a t = omega arith
-fit-by (suc (suc zero)) a [] = rw (two-no a 0 tail0) tt
-fit-by (suc (suc zero)) a (b ∷ t) = two-fit a b (suc (suc (length t))) (omega arith)
-fit-by (suc (suc (suc zero))) a [] = rw (three-no a 0 0 tail0) tt
-fit-by (suc (suc (suc zero))) a (b ∷ []) = rw (three-no a b 0 tail0) tt
-fit-by (suc (suc (suc zero))) a (b ∷ c ∷ t) = three-fit a b c (suc (suc (suc (length t)))) (omega arith)
-fit-by (suc (suc (suc (suc k)))) a [] = rw (four-no a 0 0 0 tail0) tt
-fit-by (suc (suc (suc (suc k)))) a (b ∷ []) = rw (four-no a b 0 0 tail0) tt
-fit-by (suc (suc (suc (suc k)))) a (b ∷ c ∷ []) = rw (four-no a b c 0 tail0) tt
-fit-by (suc (suc (suc (suc k)))) a (b ∷ c ∷ d ∷ t) = four-fit a b c d (suc (suc (suc (suc (length t))))) (omega arith)
-
-pub first-fit : (l : List ℕ) → Fit (first l) (length l)
-unfolding first
-first-fit [] = tt
-first-fit (a ∷ t) = fit-by (lenOf a) a t
-
-pub first-fits : (l : List ℕ) (c n : ℕ) → first l ≡ Char c n → (1 ≤ n) × (n ≤ 4) × (n ≤ length l)
-first-fits l c n e = rw e at (first-fit l)
-
--- how many bytes stand before the first place where no character begins; k bytes are passed over before the next one
-abbrev pub goodStep : Decoded → (ℕ → ℕ) → ℕ
-goodStep (Char c n) f = n + f (pred n)
-goodStep Ill f = 0
-goodStep End f = 0
-
-unfoldable pub goodAfter : ℕ → List ℕ → ℕ
-goodAfter k [] = 0
-goodAfter zero (a ∷ t) = goodStep (first (a ∷ t)) (λ n. goodAfter n t)
-goodAfter (suc k) (a ∷ t) = goodAfter k t
-
-abbrev pub good : List ℕ → ℕ
-good l = goodAfter 0 l
-
-good-drop : (k : ℕ) (l : List ℕ) → goodAfter k l ≡ good (drop k l)
-unfolding goodAfter
-good-drop zero l = refl
-good-drop (suc k) [] = refl
-good-drop (suc k) (a ∷ t) = good-drop k t
-
-pub good-char : (l : List ℕ) (c n : ℕ) → first l ≡ Char c n → good l ≡ n + good (drop n l)
-unfolding goodAfter first
-good-char [] c n e = let z : _≡_ {A = ℕ} 0 1 = cc in absurd (omega arith)
-good-char (a ∷ t) c zero e = let h = first-fits (a ∷ t) c zero e in absurd (omega arith)
-good-char (a ∷ t) c (suc n) e = ap (λ (d : Decoded). goodStep d (λ m. goodAfter m t)) e ∙ ap (λ (m : ℕ). suc n + m) (good-drop n t)
-
-pub good-none : (l : List ℕ) → first l ≡ Ill → good l ≡ 0
-unfolding goodAfter first
-good-none [] e = refl
-good-none (a ∷ t) e = ap (λ (d : Decoded). goodStep d (λ m. goodAfter m t)) e
-
-pub good-end : (l : List ℕ) → first l ≡ End → good l ≡ 0
-unfolding goodAfter first
-good-end [] e = refl
-good-end (a ∷ t) e = ap (λ (d : Decoded). goodStep d (λ m. goodAfter m t)) e
-
-pub chars-next : (l : List ℕ) (c n : ℕ) → first l ≡ Char c n → chars l ≡ c ∷ chars (drop n l)
-chars-next l c zero e = let h = first-fits l c zero e in absurd (omega arith)
-chars-next l c (suc n) e = chars-char l c n e
 
 never : {A : Type 0} (c n : ℕ) → Ill ≡ Char c n → A
 never c n e = let z : _≡_ {A = ℕ} 0 1 = cc in absurd (omega arith)
@@ -179,7 +72,7 @@ tail-inv b e = let h = both-true (leb 128 b) (ltb b 192) e in (leb-true 128 b (h
 pub scalar-inv : (lo c : ℕ) → isScalar lo c ≡ true → (lo ≤ c) × (c < 0x110000)
 unfolding isScalar
 scalar-inv lo c e =
-    let h = both-true (leb lo c) (((ltb c 0xd800 || ltb 0xdfff c) && (ltb c 0x110000))) e in
+    let h = both-true (leb lo c) ((ltb c 0xd800 || ltb 0xdfff c) && ltb c 0x110000) e in
     (leb-true lo c (h .0), ltb-true c 0x110000 (both-true (ltb c 0xd800 || ltb 0xdfff c) (ltb c 0x110000) (h .1) .1))
 
 -- what the length says of the lead byte
@@ -190,18 +83,14 @@ Lead a (suc (suc zero)) = (192 ≤ a) × (a < 224)
 Lead a (suc (suc (suc zero))) = (224 ≤ a) × (a < 240)
 Lead a (suc (suc (suc (suc n)))) = (240 ≤ a) × (a < 248)
 
-lead-by : (a : ℕ) (t1 t2 t3 t4 t5 : Bool) → ltb a 128 ≡ t1 → ltb a 192 ≡ t2 → ltb a 224 ≡ t3 → ltb a 240 ≡ t4 → ltb a 248 ≡ t5
-    → Lead a (pick t1 1 (pick t2 0 (pick t3 2 (pick t4 3 (pick t5 4 0)))))
-lead-by a true t2 t3 t4 t5 e1 e2 e3 e4 e5 = ltb-true a 128 e1
-lead-by a false true t3 t4 t5 e1 e2 e3 e4 e5 = tt
-lead-by a false false true t4 t5 e1 e2 e3 e4 e5 = (ltb-false a 192 e2, ltb-true a 224 e3)
-lead-by a false false false true t5 e1 e2 e3 e4 e5 = (ltb-false a 224 e3, ltb-true a 240 e4)
-lead-by a false false false false true e1 e2 e3 e4 e5 = (ltb-false a 240 e4, ltb-true a 248 e5)
-lead-by a false false false false false e1 e2 e3 e4 e5 = tt
-
 lead : (a : ℕ) → Lead a (lenOf a)
 unfolding lenOf
-lead a = lead-by a (ltb a 128) (ltb a 192) (ltb a 224) (ltb a 240) (ltb a 248) refl refl refl refl refl
+lead a =
+    on-pick (Lead a) (ltb a 128) (λ e. ltb-true a 128 e) λ _.
+    on-pick (Lead a) (ltb a 192) (λ _. tt) λ f.
+    on-pick (Lead a) (ltb a 224) (λ e. (ltb-false a 192 f, ltb-true a 224 e)) λ g.
+    on-pick (Lead a) (ltb a 240) (λ e. (ltb-false a 224 g, ltb-true a 240 e)) λ h.
+    on-pick (Lead a) (ltb a 248) (λ e. (ltb-false a 240 h, ltb-true a 248 e)) λ _. tt
 
 pub bytes1 : (c : ℕ) → c < 128 → bytesOf c ≡ c ∷ []
 unfolding bytesOf
@@ -242,7 +131,7 @@ two-inv : (a b c n : ℕ) → Lead a 2 → two a b ≡ Char c n → (n ≡ 2) ×
 unfolding two
 two-inv a b c n h e =
     let v = a % 32 * 64 + b % 64 in
-    let i = char-inv (((isTail b) && (isScalar 0x80 v))) v 2 c n e in
+    let i = char-inv (isTail b && isScalar 0x80 v) v 2 c n e in
     let j = both-true (isTail b) (isScalar 0x80 v) (i .0) in
     let k = tail-inv b (j .0) in
     let s = scalar-inv 0x80 v (j .1) in
@@ -252,8 +141,8 @@ three-inv : (a b c v n : ℕ) → Lead a 3 → three a b c ≡ Char v n → (n �
 unfolding three
 three-inv a b c v n h e =
     let w = a % 16 * 4096 + b % 64 * 64 + c % 64 in
-    let i = char-inv (((isTail b) && (((isTail c) && (isScalar 0x800 w))))) w 3 v n e in
-    let j = both-true (isTail b) (((isTail c) && (isScalar 0x800 w))) (i .0) in
+    let i = char-inv (isTail b && (isTail c && isScalar 0x800 w)) w 3 v n e in
+    let j = both-true (isTail b) (isTail c && isScalar 0x800 w) (i .0) in
     let j' = both-true (isTail c) (isScalar 0x800 w) (j .1) in
     let k = tail-inv b (j .0) in
     let k' = tail-inv c (j' .0) in
@@ -264,9 +153,9 @@ four-inv : (a b c d v n : ℕ) → Lead a 4 → four a b c d ≡ Char v n → (n
 unfolding four
 four-inv a b c d v n h e =
     let w = a % 8 * 262144 + b % 64 * 4096 + c % 64 * 64 + d % 64 in
-    let i = char-inv (((isTail b) && (((isTail c) && (((isTail d) && (isScalar 0x10000 w))))))) w 4 v n e in
-    let j = both-true (isTail b) (((isTail c) && (((isTail d) && (isScalar 0x10000 w))))) (i .0) in
-    let j' = both-true (isTail c) (((isTail d) && (isScalar 0x10000 w))) (j .1) in
+    let i = char-inv (isTail b && (isTail c && (isTail d && isScalar 0x10000 w))) w 4 v n e in
+    let j = both-true (isTail b) (isTail c && (isTail d && isScalar 0x10000 w)) (i .0) in
+    let j' = both-true (isTail c) (isTail d && isScalar 0x10000 w) (j .1) in
     let j'' = both-true (isTail d) (isScalar 0x10000 w) (j' .1) in
     let k = tail-inv b (j .0) in
     let k' = tail-inv c (j' .0) in
@@ -274,26 +163,108 @@ four-inv a b c d v n h e =
     let s = scalar-inv 0x10000 w (j'' .1) in
     (sym (i .2), bytes4 a b c d v (h .0) (h .1) (k .0) (k .1) (k' .0) (k' .1) (k'' .0) (k'' .1) (i .1) (rw (i .1) at (s .0)))
 
-same-by : (k a : ℕ) (t : List ℕ) (c n : ℕ) → Lead a k → byLen k a (getD t 0 0) (getD t 1 0) (getD t 2 0) ≡ Char c n → n ≤ suc (length t)
+same-by : (k a : ℕ) (t : List ℕ) (c n : ℕ) → Lead a k → byLen k a (getD t 0 0) (getD t 1 0) (getD t 2 0) ≡ Char c n
     → (bytesOf c ≡ take n (a ∷ t)) × (n ≡ length (bytesOf c))
 unfolding byLen
-same-by zero a t c n h e f = never c n e
-same-by (suc zero) a t c n h e f =
+same-by zero a t c n h e = never c n e
+same-by (suc zero) a t c n h e =
     let p : 1 ≡ n = cc in
     let q : a ≡ c = cc in
     let r : bytesOf c ≡ a ∷ [] = rw (← q) (bytes1 a h) in
     (rw (r, ← p), rw r (sym p))
-same-by (suc (suc zero)) a [] c n h e f = never c n (sym (two-no a 0 tail0) ∙ e)
-same-by (suc (suc zero)) a (b ∷ t) c n h e f = let i = two-inv a b c n h e in (rw (i .1, i .0), rw (i .1) (i .0))
-same-by (suc (suc (suc zero))) a [] c n h e f = never c n (sym (three-no a 0 0 tail0) ∙ e)
-same-by (suc (suc (suc zero))) a (b ∷ []) c n h e f = never c n (sym (three-no a b 0 tail0) ∙ e)
-same-by (suc (suc (suc zero))) a (b ∷ b' ∷ t) c n h e f = let i = three-inv a b b' c n h e in (rw (i .1, i .0), rw (i .1) (i .0))
-same-by (suc (suc (suc (suc k)))) a [] c n h e f = never c n (sym (four-no a 0 0 0 tail0) ∙ e)
-same-by (suc (suc (suc (suc k)))) a (b ∷ []) c n h e f = never c n (sym (four-no a b 0 0 tail0) ∙ e)
-same-by (suc (suc (suc (suc k)))) a (b ∷ b' ∷ []) c n h e f = never c n (sym (four-no a b b' 0 tail0) ∙ e)
-same-by (suc (suc (suc (suc k)))) a (b ∷ b' ∷ b'' ∷ t) c n h e f = let i = four-inv a b b' b'' c n h e in (rw (i .1, i .0), rw (i .1) (i .0))
+same-by (suc (suc zero)) a [] c n h e = never c n (sym (two-no a 0 tail0) ∙ e)
+same-by (suc (suc zero)) a (b ∷ t) c n h e = let i = two-inv a b c n h e in (rw (i .1, i .0), rw (i .1) (i .0))
+same-by (suc (suc (suc zero))) a [] c n h e = never c n (sym (three-no a 0 0 tail0) ∙ e)
+same-by (suc (suc (suc zero))) a (b ∷ []) c n h e = never c n (sym (three-no a b 0 tail0) ∙ e)
+same-by (suc (suc (suc zero))) a (b ∷ b' ∷ t) c n h e = let i = three-inv a b b' c n h e in (rw (i .1, i .0), rw (i .1) (i .0))
+same-by (suc (suc (suc (suc k)))) a [] c n h e = never c n (sym (four-no a 0 0 0 tail0) ∙ e)
+same-by (suc (suc (suc (suc k)))) a (b ∷ []) c n h e = never c n (sym (four-no a b 0 0 tail0) ∙ e)
+same-by (suc (suc (suc (suc k)))) a (b ∷ b' ∷ []) c n h e = never c n (sym (four-no a b b' 0 tail0) ∙ e)
+same-by (suc (suc (suc (suc k)))) a (b ∷ b' ∷ b'' ∷ t) c n h e = let i = four-inv a b b' b'' c n h e in (rw (i .1, i .0), rw (i .1) (i .0))
 
 pub first-bytes : (l : List ℕ) (c n : ℕ) → first l ≡ Char c n → (bytesOf c ≡ take n l) × (n ≡ length (bytesOf c))
 unfolding first
 first-bytes [] c n e = let z : _≡_ {A = ℕ} 0 1 = cc in absurd (omega arith)
-first-bytes (a ∷ t) c n e = same-by (lenOf a) a t c n (lead a) e (first-fits (a ∷ t) c n e .2)
+first-bytes (a ∷ t) c n e = same-by (lenOf a) a t c n (lead a) e
+
+bytes-length : (c : ℕ) → (1 ≤ length (bytesOf c)) × (length (bytesOf c) ≤ 4)
+unfolding bytesOf
+bytes-length c =
+    on-pick P (ltb c 0x80) (λ _. omega arith) λ _.
+    on-pick P (ltb c 0x800) (λ _. omega arith) λ _.
+    on-pick P (ltb c 0x10000) (λ _. omega arith) λ _. omega arith
+  where
+    P : List ℕ → Type 0
+    P l = (1 ≤ length l) × (length l ≤ 4)
+
+-- a character takes one to four bytes, and no more than there are
+pub first-fits : (l : List ℕ) (c n : ℕ) → first l ≡ Char c n → (1 ≤ n) × (n ≤ 4) × (n ≤ length l)
+first-fits l c n e =
+    let b = first-bytes l c n e in
+    let k = bytes-length c in
+    let i : n ≡ min n (length l) = b .1 ∙ ap length (b .0) ∙ length-take n l in
+    omega arith
+
+-- the characters of a list
+
+pub after-drop : (k : ℕ) (l : List ℕ) → charsAfter k l ≡ chars (drop k l)
+unfolding charsAfter
+after-drop zero l = refl
+after-drop (suc k) [] = refl
+after-drop (suc k) (a ∷ t) = after-drop k t
+
+-- a list that begins with the character c of n bytes
+pub chars-char : (l : List ℕ) (c n : ℕ) → first l ≡ Char c (suc n) → chars l ≡ c ∷ chars (drop (suc n) l)
+unfolding charsAfter first
+chars-char [] c n e = let z : _≡_ {A = ℕ} 0 1 = cc in absurd (omega arith)
+chars-char (a ∷ t) c n e = ap (λ (d : Decoded). more d (λ m. charsAfter m t)) e ∙ ap (λ (m : List ℕ). c ∷ m) (after-drop n t)
+
+pub chars-none : (l : List ℕ) → first l ≡ Ill → chars l ≡ []
+unfolding charsAfter first
+chars-none [] e = refl
+chars-none (a ∷ t) e = ap (λ (d : Decoded). more d (λ m. charsAfter m t)) e
+
+pub chars-end : (l : List ℕ) → first l ≡ End → chars l ≡ []
+unfolding charsAfter first
+chars-end [] e = refl
+chars-end (a ∷ t) e = ap (λ (d : Decoded). more d (λ m. charsAfter m t)) e
+
+pub chars-next : (l : List ℕ) (c n : ℕ) → first l ≡ Char c n → chars l ≡ c ∷ chars (drop n l)
+chars-next l c zero e = let h = first-fits l c zero e in absurd (omega arith)
+chars-next l c (suc n) e = chars-char l c n e
+
+-- how many bytes stand before the first place where no character begins; k bytes are passed over before the next one
+abbrev pub goodStep : Decoded → (ℕ → ℕ) → ℕ
+goodStep (Char c n) f = n + f (pred n)
+goodStep Ill f = 0
+goodStep End f = 0
+
+unfoldable pub goodAfter : ℕ → List ℕ → ℕ
+goodAfter k [] = 0
+goodAfter zero (a ∷ t) = goodStep (first (a ∷ t)) (λ n. goodAfter n t)
+goodAfter (suc k) (a ∷ t) = goodAfter k t
+
+abbrev pub good : List ℕ → ℕ
+good l = goodAfter 0 l
+
+good-drop : (k : ℕ) (l : List ℕ) → goodAfter k l ≡ good (drop k l)
+unfolding goodAfter
+good-drop zero l = refl
+good-drop (suc k) [] = refl
+good-drop (suc k) (a ∷ t) = good-drop k t
+
+pub good-char : (l : List ℕ) (c n : ℕ) → first l ≡ Char c n → good l ≡ n + good (drop n l)
+unfolding goodAfter first
+good-char [] c n e = let z : _≡_ {A = ℕ} 0 1 = cc in absurd (omega arith)
+good-char (a ∷ t) c zero e = let h = first-fits (a ∷ t) c zero e in absurd (omega arith)
+good-char (a ∷ t) c (suc n) e = ap (λ (d : Decoded). goodStep d (λ m. goodAfter m t)) e ∙ ap (λ (m : ℕ). suc n + m) (good-drop n t)
+
+pub good-none : (l : List ℕ) → first l ≡ Ill → good l ≡ 0
+unfolding goodAfter first
+good-none [] e = refl
+good-none (a ∷ t) e = ap (λ (d : Decoded). goodStep d (λ m. goodAfter m t)) e
+
+pub good-end : (l : List ℕ) → first l ≡ End → good l ≡ 0
+unfolding goodAfter first
+good-end [] e = refl
+good-end (a ∷ t) e = ap (λ (d : Decoded). goodStep d (λ m. goodAfter m t)) e
