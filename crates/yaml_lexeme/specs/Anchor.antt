@@ -4,8 +4,8 @@ use lib.ListN.{drop}
 use Rattle.yaml_text.specs.Pick.{pick}
 use Rattle.yaml_text.specs.Class.{isAnchor, none-left}
 use Rattle.yaml_text.specs.Mark.{Place, along, word}
-use Rattle.yaml_lexeme.specs.Token.{Alias, Anchor, Lexeme, lexeme}
 use Rattle.yaml_text.specs.Refusal.{Read, _>>=_, got, need}
+use Rattle.yaml_lexeme.specs.Token.{Alias, Anchor, Lexeme, lexeme}
 
 -- from its indicator; 27: empty [H9]
 unfoldable pub scan-anchor : Bool → Place → Read Lexeme

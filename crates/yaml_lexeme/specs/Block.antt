@@ -5,16 +5,16 @@ use mathlib.Core.List.{List, [], _++_, _∷_}
 use lib.Dec.{eqb, leb, ltb}
 use lib.ListN.{replicate}
 use Rattle.yaml_text.specs.declared.Mark.{Mark}
-use Rattle.yaml_lexeme.specs.declared.Chomping.{Chomping}
-use Rattle.yaml_lexeme.specs.declared.Chomping.the-variants.{Clip, Keep, Strip}
-use Rattle.yaml_lexeme.specs.declared.Style.{Style}
-use Rattle.yaml_lexeme.specs.declared.Style.the-variants.{Folded, Literal}
 use Rattle.yaml_text.specs.Pick.{pick}
 use Rattle.yaml_text.specs.Char.{'+', '-', '0', line-feed, space, tab}
 use Rattle.yaml_text.specs.Class.{isBlank, isBom, isBreak, isBreakz, isDigit, none-left, peek}
 use Rattle.yaml_text.specs.Mark.{Place, Run, along, before-run, ends-line, halfBreak, here, isMarker, look, over, skip-break, skip-by}
-use Rattle.yaml_lexeme.specs.Token.{Lexeme, Scalar, lexeme}
 use Rattle.yaml_text.specs.Refusal.{Read, _>>=_, got, need, refused}
+use Rattle.yaml_lexeme.specs.declared.Chomping.{Chomping}
+use Rattle.yaml_lexeme.specs.declared.Chomping.the-variants.{Clip, Keep, Strip}
+use Rattle.yaml_lexeme.specs.declared.Style.{Style}
+use Rattle.yaml_lexeme.specs.declared.Style.the-variants.{Folded, Literal}
+use Rattle.yaml_lexeme.specs.Token.{Lexeme, Scalar, lexeme}
 use Rattle.yaml_lexeme.specs.Gap.{blanks-and-comment}
 
 pub record Header : Type 0 where

@@ -8,16 +8,16 @@ use native.Mathlib.Omega.{arith}
 use lib.Dec.{eqb, leb, ltb}
 use lib.ListN.{drop, length}
 use Rattle.yaml_text.specs.declared.Mark.{Mark}
-use Rattle.yaml_lexeme.specs.declared.Style.{Style}
 use Rattle.yaml_text.specs.Char.{space}
 use Rattle.yaml_text.specs.Class.{isBreak, isBreakz, isDigit, none-left, peek}
 use Rattle.yaml_text.specs.Mark.{Place, Run, ends-line, here, look, over, skip-break, skip-by}
-use Rattle.yaml_lexeme.specs.Token.{Lexeme}
-use Rattle.yaml_lexeme.specs.Block.{ContentTurn, Header, Layout, Line, Margin, after-content, ahead, block-content, content, content-column, content-stops, content-turn, increment-of, indicators, isChomp, margin, one-if, opens-content, scan-block-scalar, writes}
 use Rattle.yaml_text.specs.Test.{by-test, on-pick, true-false}
 use Rattle.yaml_text.specs.All.{All, all-any, all-bind, all-need, all-test, all-weak, holds, not-read}
 use Rattle.yaml_text.specs.DecodeLaws.{NoNul, no-nul-drop}
 use Rattle.yaml_text.specs.PlaceLaws.{Fits, fits-no-nul, fits-over, fits-refl, fits-trans, skip-break-fit, skip-break-line, skip-fit, there}
+use Rattle.yaml_lexeme.specs.declared.Style.{Style}
+use Rattle.yaml_lexeme.specs.Token.{Lexeme}
+use Rattle.yaml_lexeme.specs.Block.{ContentTurn, Header, Layout, Line, Margin, after-content, ahead, block-content, content, content-column, content-stops, content-turn, increment-of, indicators, isChomp, margin, one-if, opens-content, scan-block-scalar, writes}
 use Rattle.yaml_lexeme.specs.Fits.{FitsRun, blanks-and-comment-fit}
 
 content-turned : {q : Place} (t : ContentTurn) (go : Line → Run) (end : Run) → ((l : Line) → FitsRun q (go l)) → FitsRun q end → FitsRun q (after-content t go end)

@@ -9,8 +9,8 @@ use Rattle.yaml_text.specs.Pick.{pick}
 use Rattle.yaml_text.specs.Char.{'!', '0', dot, space}
 use Rattle.yaml_text.specs.Class.{isAlpha, isBlank, isBlankOrBreakz, isBreakz, isDigit, isNonSpace, isTag, isUri, none-left, same}
 use Rattle.yaml_text.specs.Mark.{Place, Run, along, before-run, here, look, nothing-at, skip-break, skip-by, word}
-use Rattle.yaml_lexeme.specs.Token.{Lexeme, ReservedDirective, TagDirective, VersionDirective, lexeme}
 use Rattle.yaml_text.specs.Refusal.{Read, _>>=_, got, need, refused}
+use Rattle.yaml_lexeme.specs.Token.{Lexeme, ReservedDirective, TagDirective, VersionDirective, lexeme}
 use Rattle.yaml_lexeme.specs.Gap.{blanks, blanks-and-comment}
 use Rattle.yaml_lexeme.specs.Tag.{uri-at}
 

@@ -5,13 +5,13 @@ use mathlib.Core.List.{List}
 use lib.Dec.{eqb}
 use lib.ListN.{drop}
 use Rattle.yaml_text.specs.declared.Mark.{Mark}
-use Rattle.yaml_lexeme.specs.declared.Named.{Named}
-use Rattle.yaml_lexeme.specs.declared.Named.the-variants.{Digits, Stands, Unknown}
 use Rattle.yaml_text.specs.Pick.{pick}
 use Rattle.yaml_text.specs.Char.{'0', backslash, double-quote, space, tab}
 use Rattle.yaml_text.specs.Utf8.{isScalar}
 use Rattle.yaml_text.specs.Class.{asHex, isHex, peek}
 use Rattle.yaml_text.specs.Refusal.{Read, _>>=_, got, need, refused}
+use Rattle.yaml_lexeme.specs.declared.Named.{Named}
+use Rattle.yaml_lexeme.specs.declared.Named.the-variants.{Digits, Stands, Unknown}
 
 pub record Escaped : Type 0 where
   pub char : ℕ

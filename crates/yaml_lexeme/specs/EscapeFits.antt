@@ -10,16 +10,16 @@ use borrow.Author.Tests.{ltb-true}
 use Rattle.yaml_text.specs.declared.Decoded.{Decoded}
 use Rattle.yaml_text.specs.declared.Decoded.the-variants.{Char, End, Ill}
 use Rattle.yaml_text.specs.declared.Mark.{Mark}
-use Rattle.yaml_lexeme.specs.declared.Named.{Named}
-use Rattle.yaml_lexeme.specs.declared.Named.the-variants.{Digits, Stands, Unknown}
 use Rattle.yaml_text.specs.Char.{'%'}
 use Rattle.yaml_text.specs.Utf8.{first, lenOf}
 use Rattle.yaml_text.specs.Class.{asHex, isDigit, isHex, peek}
-use Rattle.yaml_lexeme.specs.Escape.{Escaped, escape, escape-of, hex-number, named}
-use Rattle.yaml_lexeme.specs.Tag.{code-point, octet, percent, trailing}
 use Rattle.yaml_text.specs.Test.{both-true, by-test, on-pick}
 use Rattle.yaml_text.specs.All.{All, all-bind, all-need, all-test, all-weak, holds, not-read}
 use Rattle.yaml_text.specs.PlaceLaws.{there}
+use Rattle.yaml_lexeme.specs.declared.Named.{Named}
+use Rattle.yaml_lexeme.specs.declared.Named.the-variants.{Digits, Stands, Unknown}
+use Rattle.yaml_lexeme.specs.Escape.{Escaped, escape, escape-of, hex-number, named}
+use Rattle.yaml_lexeme.specs.Tag.{code-point, octet, percent, trailing}
 
 abbrev pub Took : ℕ → Escaped → Type 0
 Took n e = (1 ≤ e .took) × (e .took ≤ n)

@@ -11,14 +11,14 @@ use Rattle.yaml_lexeme.specs.declared.Before.{Before}
 use Rattle.yaml_text.specs.Char.{'#'}
 use Rattle.yaml_text.specs.Class.{isBlank, isBreak, none-left, peek}
 use Rattle.yaml_text.specs.Mark.{Place, Run, along, before-run, here, look, nothing-at, over, skip-by}
-use Rattle.yaml_lexeme.specs.Token.{Lexeme}
 use Rattle.yaml_text.specs.Refusal.{Read, before-read}
-use Rattle.yaml_lexeme.specs.Gap.{Gap, GapTurn, after-gap-turn, blanks, blanks-and-comment, comment-after, gap-turn, pass, skip-gap, stop, to-break, wrong}
-use Rattle.yaml_lexeme.specs.Plain.{glue, plain-stops, plain-text, scan-plain-scalar}
-use Rattle.yaml_lexeme.specs.Quoted.{Mode, Quote, Turn, after-turn, chars-of, closes, goes, quoted-run, quoted-turn, scan-flow-scalar, wrong-quote}
 use Rattle.yaml_text.specs.Test.{by-pick, by-test}
 use Rattle.yaml_text.specs.All.{All, all-bind, all-need, all-weak, holds, not-read}
 use Rattle.yaml_text.specs.PlaceLaws.{Fits, fits-along, fits-over, fits-refl, fits-trans}
+use Rattle.yaml_lexeme.specs.Token.{Lexeme}
+use Rattle.yaml_lexeme.specs.Gap.{Gap, GapTurn, after-gap-turn, blanks, blanks-and-comment, comment-after, gap-turn, pass, skip-gap, stop, to-break, wrong}
+use Rattle.yaml_lexeme.specs.Plain.{glue, plain-stops, plain-text, scan-plain-scalar}
+use Rattle.yaml_lexeme.specs.Quoted.{Mode, Quote, Turn, after-turn, chars-of, closes, goes, quoted-run, quoted-turn, scan-flow-scalar, wrong-quote}
 
 abbrev pub FitsRun : Place → Run → Type 0
 FitsRun p r = Fits p (r .place)

@@ -2,13 +2,13 @@
 use Prim.Native.Nat.{_+_, ℕ}
 use mathlib.Core.List.{List, [], _++_, _∷_}
 use lib.ListN.{length}
+use Rattle.yaml_text.specs.declared.Mark.{Mark}
 use Rattle.yaml_lexeme.specs.declared.Kind.{Kind as HeldKind}
 use Rattle.yaml_lexeme.specs.declared.Kind.the-variants as held
 use Rattle.yaml_lexeme.specs.declared.Style.{Style}
 use Rattle.yaml_lexeme.specs.declared.Style.the-variants.{DoubleQuoted, Folded, Literal, Plain, SingleQuoted}
 use Rattle.yaml_lexeme.specs.declared.Text.{Text}
 use Rattle.yaml_lexeme.specs.declared.Token.{Token as HeldToken}
-use Rattle.yaml_text.specs.declared.Mark.{Mark}
 use Rattle.yaml_lexeme.specs.Token.{Alias, Anchor, BlockEnd, BlockEntry, BlockMappingStart, BlockSequenceStart, ByteOrderMark, DocumentEnd, DocumentStart, FlowEntry, FlowMappingEnd, FlowMappingStart, FlowSequenceEnd, FlowSequenceStart, Key, Kind, ReservedDirective, Scalar, StreamEnd, StreamStart, Tag, TagDirective, Token, Value, VersionDirective, size, token-bytes}
 
 -- word 1: the number of a kind

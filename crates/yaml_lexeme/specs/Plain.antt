@@ -5,11 +5,11 @@ use mathlib.Core.List.{List, [], _∷_}
 use lib.Dec.{eqb}
 use lib.ListN.{drop}
 use Rattle.yaml_text.specs.declared.Mark.{Mark}
-use Rattle.yaml_lexeme.specs.declared.Style.the-variants.{Plain}
 use Rattle.yaml_text.specs.Pick.{pick}
 use Rattle.yaml_text.specs.Char.{'#', ':'}
 use Rattle.yaml_text.specs.Class.{isBlank, isBlankOrBreakz, isBom, isBreakz, isFlow, none-left, peek}
 use Rattle.yaml_text.specs.Mark.{Place, Run, along, before-run, here, look, nothing-at}
+use Rattle.yaml_lexeme.specs.declared.Style.the-variants.{Plain}
 use Rattle.yaml_lexeme.specs.Token.{Lexeme, Scalar, lexeme}
 
 -- behind its first character it ends at the line's end, at a BOM, at a flow indicator in flow, at blank + '#',

@@ -5,13 +5,13 @@ use mathlib.Core.List.{List, [], _++_, _∷_}
 use lib.Dec.{eqb, ltb}
 use lib.ListN.{drop, replicate}
 use Rattle.yaml_text.specs.declared.Mark.{Mark}
-use Rattle.yaml_lexeme.specs.declared.Style.the-variants.{DoubleQuoted, SingleQuoted}
 use Rattle.yaml_text.specs.Pick.{pick}
 use Rattle.yaml_text.specs.Char.{':', ']', backslash, close-brace, comma, double-quote, line-feed, single-quote, space, tab}
 use Rattle.yaml_text.specs.Class.{among, isBlank, isBreak, isBreakz, peek}
 use Rattle.yaml_text.specs.Mark.{Place, Run, along, break-length, edge-of, halfBreak, here, isMarker, look, over}
-use Rattle.yaml_lexeme.specs.Token.{Lexeme, Scalar, lexeme}
 use Rattle.yaml_text.specs.Refusal.{Read, _>>=_, before-read, got, need, refused}
+use Rattle.yaml_lexeme.specs.declared.Style.the-variants.{DoubleQuoted, SingleQuoted}
+use Rattle.yaml_lexeme.specs.Token.{Lexeme, Scalar, lexeme}
 use Rattle.yaml_lexeme.specs.Gap.{blanks-and-comment}
 use Rattle.yaml_lexeme.specs.Escape.{Escaped, escape}
 

@@ -12,8 +12,8 @@ use Rattle.yaml_text.specs.Char.{'!', '%', '<', '>'}
 use Rattle.yaml_text.specs.Utf8.{first, isTail, lenOf}
 use Rattle.yaml_text.specs.Class.{asHex, isAlpha, isBlankOrBreakz, isFlow, isHex, isTag, isUri, none-left, peek}
 use Rattle.yaml_text.specs.Mark.{Place, Run, along, here, look, nothing-at, skip-by, word}
-use Rattle.yaml_lexeme.specs.Token.{Lexeme, Tag, lexeme}
 use Rattle.yaml_text.specs.Refusal.{Read, _>>=_, before-read, got, need, refused}
+use Rattle.yaml_lexeme.specs.Token.{Lexeme, Tag, lexeme}
 use Rattle.yaml_lexeme.specs.Escape.{Escaped}
 
 -- the octet of a percent escape; 21: not % and two hex

@@ -11,13 +11,13 @@ use Rattle.yaml_text.specs.declared.Mark.{Mark}
 use Rattle.yaml_text.specs.Char.{'!', '%', '0', '<', '>', dot}
 use Rattle.yaml_text.specs.Class.{isAlpha, isAnchor, isBlank, isDigit, isNonSpace, isTag, isUri, peek, same}
 use Rattle.yaml_text.specs.Mark.{Place, Run, along, here, look, skip-by, word}
+use Rattle.yaml_text.specs.Test.{by-test, on-pick}
+use Rattle.yaml_text.specs.All.{All, all-any, all-bind, all-need, all-test, all-weak, holds, not-read}
+use Rattle.yaml_text.specs.PlaceLaws.{Fits, fits-along, fits-refl, fits-trans, left, skip-break-fit, skip-fit, skip-on, there, word-fit}
 use Rattle.yaml_lexeme.specs.Token.{Lexeme}
 use Rattle.yaml_lexeme.specs.Tag.{Texts, handled, percent, primary, scan-tag, tag-texts, uri-run, verbatim}
 use Rattle.yaml_lexeme.specs.Anchor.{scan-anchor}
 use Rattle.yaml_lexeme.specs.Directive.{Numbered, blanks-at, directive-of, parameters, reserved-directive, scan-directive, tag-directive, tag-handle, tag-prefix, version-digits, version-directive, version-number}
-use Rattle.yaml_text.specs.Test.{by-test, on-pick}
-use Rattle.yaml_text.specs.All.{All, all-any, all-bind, all-need, all-test, all-weak, holds, not-read}
-use Rattle.yaml_text.specs.PlaceLaws.{Fits, fits-along, fits-refl, fits-trans, left, skip-break-fit, skip-fit, skip-on, there, word-fit}
 use Rattle.yaml_lexeme.specs.Fits.{FitsRun, Reads, before-fit, blanks-and-comment-fit, blanks-fit}
 
 pub uri-run-fit : (f : ℕ → Bool) (start : Mark) (k : ℕ) (m : Mark) (cs : List ℕ) → All Run (FitsRun (here m cs)) (uri-run f start k m cs)

@@ -3,9 +3,9 @@ use Prim.Native.Nat.{ℕ}
 use mathlib.Core.List.{List, [], _++_, _∷_}
 use lib.ListN.{length}
 use Rattle.yaml_text.specs.declared.Mark.{Mark}
-use Rattle.yaml_lexeme.specs.declared.Style.{Style}
 use Rattle.yaml_text.specs.Utf8.{encode}
 use Rattle.yaml_text.specs.Mark.{Place}
+use Rattle.yaml_lexeme.specs.declared.Style.{Style}
 
 -- in the order of the crate's TokenType; a text is a list of characters
 pub data Kind : Type 0 where

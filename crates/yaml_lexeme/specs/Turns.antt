@@ -13,7 +13,7 @@ use Rattle.yaml_text.specs.Utf8.{isTail}
 use Rattle.yaml_text.specs.Class.{asHex, isBlank, isBreak, isDigit, isHex, isNonSpace, peek}
 use Rattle.yaml_text.specs.Mark.{along, before-run, ends-line, here, nothing-at, over}
 use Rattle.yaml_text.specs.Refusal.{_>>=_, before-read, got, need, refused}
-use Rattle.yaml_lexeme.specs.Gap.{after-gap-turn, blanks, gap-turn, skip-gap, to-break, isLeading}
+use Rattle.yaml_lexeme.specs.Gap.{after-gap-turn, blanks, gap-turn, isLeading, skip-gap, to-break}
 use Rattle.yaml_lexeme.specs.Plain.{glue, plain-stops, plain-text}
 use Rattle.yaml_lexeme.specs.Quoted.{Mode, Quote, after-turn, quoted-run, quoted-turn}
 use Rattle.yaml_lexeme.specs.Block.{Layout, Line, after-content, content, content-end, content-turn, largest, margin}

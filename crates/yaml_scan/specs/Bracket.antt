@@ -6,8 +6,8 @@ use lib.Dec.{ltb}
 use lib.ListN.{drop, length}
 use Rattle.yaml_text.specs.Pick.{pick}
 use Rattle.yaml_text.specs.Mark.{Place, skip-by}
-use Rattle.yaml_lexeme.specs.Token.{FlowEntry, FlowMappingEnd, FlowMappingStart, FlowSequenceEnd, FlowSequenceStart, Kind, Lexeme, lexeme}
 use Rattle.yaml_text.specs.Refusal.{Read, _>>=_, got, need}
+use Rattle.yaml_lexeme.specs.Token.{FlowEntry, FlowMappingEnd, FlowMappingStart, FlowSequenceEnd, FlowSequenceStart, Kind, Lexeme, lexeme}
 use Rattle.yaml_lexeme.specs.Gap.{blanks-and-comment}
 use Rattle.yaml_scan.specs.Indent.{stack, top-ends}
 use Rattle.yaml_scan.specs.declared.Candidate.the-variants.{Absent}

@@ -19,7 +19,7 @@ use Rattle.yaml_lexeme.specs.Token.{StreamStart, Token, empty-token, texts}
 use Rattle.yaml_scan.specs.declared.Limits.{Limits}
 use Rattle.yaml_scan.specs.State.{Event, News, State, ends-with, goes-on, put}
 use Rattle.yaml_scan.specs.Scan.{Outcome, Verdict, accepted, after-events, after-step, answer, answer-for, begin, lent, no-verdict, outcome, refusal, run, scan, scanned, settled, spent, stopped}
-use Rattle.yaml_scan.specs.Candidates.{Placed, Sound, placed-append, ready, starts}
+use Rattle.yaml_scan.specs.Candidates.{Given, Placed, Sound, fresh, given, placed-append, ready}
 use Rattle.yaml_scan.specs.Runs.{step-news}
 
 -- a case by what a step answers
@@ -109,33 +109,33 @@ answer-decided limits bytes w b = outcome-decided (outcome limits bytes) w b (ou
 
 -- what a scan says is placed
 
-abbrev pub PlacedIn : List Mark → Outcome → Type 0
-PlacedIn ms (scanned es) = Placed ms es
-PlacedIn ms (stopped n m) = Unit {0}
-PlacedIn ms spent = Unit {0}
+abbrev pub PlacedIn : List Given → Outcome → Type 0
+PlacedIn gs (scanned es) = Placed gs es
+PlacedIn gs (stopped n m) = Unit {0}
+PlacedIn gs spent = Unit {0}
 
-after-events-placed : (ms : List Mark) (es : List Event) (o : Outcome) → Placed ms es → PlacedIn (starts ms es) o → PlacedIn ms (after-events es o)
-after-events-placed ms es (scanned fs) h k = placed-append ms es fs h k
-after-events-placed ms es (stopped n m) h k = tt
-after-events-placed ms es spent h k = tt
+after-events-placed : (gs : List Given) (es : List Event) (o : Outcome) → Placed gs es → PlacedIn (given gs es) o → PlacedIn gs (after-events es o)
+after-events-placed gs es (scanned fs) h k = placed-append gs es fs h k
+after-events-placed gs es (stopped n m) h k = tt
+after-events-placed gs es spent h k = tt
 
-pub run-placed : (limits : Limits) (k : ℕ) (ms : List Mark) (s : State) → Sound ms s → PlacedIn ms (run limits k s)
+pub run-placed : (limits : Limits) (k : ℕ) (gs : List Given) (s : State) → Sound gs s → PlacedIn gs (run limits k s)
 unfolding run
-run-placed limits zero ms s h = tt
-run-placed limits (suc k) ms s h =
-    on-news (λ r. PlacedIn ms (after-step r (λ t. run limits k t))) (step-news ms limits s)
-    (λ es t i. let j = i .sound h in after-events-placed ms es (run limits k t) (j .0) (run-placed limits k (starts ms es) t (j .1)))
+run-placed limits zero gs s h = tt
+run-placed limits (suc k) gs s h =
+    on-news (λ r. PlacedIn gs (after-step r (λ t. run limits k t))) (step-news gs limits s)
+    (λ es t i. let j = i .sound h in after-events-placed gs es (run limits k t) (j .0) (run-placed limits k (given gs es) t (j .1)))
     (λ es i. i h) (λ _ _. tt)
 
 -- StreamStart was given
-pub begin-sound : (cs : List ℕ) → NoNul cs → Sound (origin ∷ []) (begin cs)
-begin-sound cs h = ready (record { counted = refl; levelled = refl; known = (tt, tt); no-nul = h })
+pub begin-sound : (cs : List ℕ) → NoNul cs → Sound (fresh origin ∷ []) (begin cs)
+begin-sound cs h = ready (record { counted = refl; levelled = refl; known = (tt, tt); ordered = tt; no-nul = h })
 
 pub scan-placed : (limits : Limits) (cs : List ℕ) → NoNul cs → PlacedIn [] (scan limits cs)
-unfolding scan starts Placed
+unfolding scan given Placed
 scan-placed limits cs h =
     after-events-placed [] (put (empty-token StreamStart origin) ∷ []) (run limits (suc (length cs)) (begin cs)) tt
-    (run-placed limits (suc (length cs)) (origin ∷ []) (begin cs) (begin-sound cs h))
+    (run-placed limits (suc (length cs)) (fresh origin ∷ []) (begin cs) (begin-sound cs h))
 
 pub outcome-placed : (limits : Limits) (bytes : List ℕ) → PlacedIn [] (outcome limits bytes)
 unfolding outcome

@@ -1,57 +1,81 @@
 -- Candidates and the tokens that they name: what holds between the events said so far and the state.
-use Prim.Native.Nat.{_+_, _<_, suc, zero, ℕ}
-use mathlib.Core.Bool.{Bool, false}
+use Prim.Native.Nat.{_+_, _<_, _≤_, suc, zero, ℕ}
+use mathlib.Core.Bool.{Bool, false, true}
 use mathlib.Core.List.{List, [], _++_, _∷_}
 use mathlib.Core.Path.{_∙_, _≡_, refl}
 use native.Mathlib.Omega.{arith}
-use lib.ListN.{List·getD-append, drop, getD, length, length-append, length-drop}
-use lib.Seq.{getD-append-seam}
+use lib.ListN.{List·getD-append, drop, getD, length, length-append, length-drop, length-set, set}
+use lib.Seq.{getD-append-seam, getD-set-other}
 use Rattle.yaml_text.specs.declared.Mark.{Mark}
 use Rattle.yaml_text.specs.Mark.{Place, origin}
 use Rattle.yaml_text.specs.DecodeLaws.{NoNul}
+use Rattle.yaml_text.specs.Test.{by-pick}
 use Rattle.yaml_lexeme.specs.Token.{Kind, Token, empty-token}
 use Rattle.yaml_scan.specs.declared.Candidate.{Candidate}
 use Rattle.yaml_scan.specs.declared.Candidate.the-variants.{Absent, Possible}
 use Rattle.yaml_scan.specs.declared.Level.{Level}
 use Rattle.yaml_scan.specs.Keys.{set-key, top-key}
 use Rattle.yaml_scan.specs.State.{Event, State, block-ends, empty-if, in-flow, mark-of, put, put-before, puts, with-keys}
-use Rattle.yaml_text.specs.Test.{by-pick}
 
--- the start marks of the tokens that were given, behind those of ms
-unfoldable pub starts : List Mark → List Event → List Mark
-starts ms [] = ms
-starts ms (put t ∷ es) = starts (ms ++ (t .start ∷ [])) es
-starts ms (put-before n ts ∷ es) = starts ms es
+-- a token that was given: where it starts, and whether tokens were put in before it
+pub record Given : Type 0 where
+  pub start : Mark
+  pub noted : Bool
+
+abbrev pub fresh : Mark → Given
+fresh m = record { start = m; noted = false }
+
+-- token n starts at the mark, and none was put in before it
+abbrev pub Free : List Given → ℕ → Mark → Type 0
+Free gs n m = (n < length gs) × (getD gs n (fresh origin) ≡ fresh m)
+
+-- tokens are put in before token n
+abbrev pub note-at : ℕ → List Given → List Given
+note-at n gs = set gs n (record { start = getD gs n (fresh origin) .start; noted = true })
+
+-- the tokens that were given, behind those of gs
+unfoldable pub given : List Given → List Event → List Given
+given gs [] = gs
+given gs (put t ∷ es) = given (gs ++ (fresh (t .start) ∷ [])) es
+given gs (put-before n ts ∷ es) = given (note-at n gs) es
 
 -- tokens that are empty, at the mark
 abbrev pub EmptyAt : Mark → List Token → Type 0
 EmptyAt m [] = Unit {0}
 EmptyAt m (t ∷ ts) = (t ≡ empty-token (t .kind) m) × EmptyAt m ts
 
--- what goes in before a token goes in before one that was given, and is empty at its start
-unfoldable pub Placed : List Mark → List Event → Type 0
-Placed ms [] = Unit {0}
-Placed ms (put t ∷ es) = Placed (ms ++ (t .start ∷ [])) es
-Placed ms (put-before n ts ∷ es) = (n < length ms) × EmptyAt (getD ms n origin) ts × Placed ms es
+-- what goes in before a token goes in before one that was given, once, and is empty at its start
+unfoldable pub Placed : List Given → List Event → Type 0
+Placed gs [] = Unit {0}
+Placed gs (put t ∷ es) = Placed (gs ++ (fresh (t .start) ∷ [])) es
+Placed gs (put-before n ts ∷ es) = (m : Mark) × Free gs n m × EmptyAt m ts × Placed (note-at n gs) es
 
 -- a candidate names a token that was given, and starts where that starts
-abbrev pub Known : List Mark → Candidate → Type 0
-Known ms Absent = Unit {0}
-Known ms (Possible required n k) = (n < length ms) × (getD ms n origin ≡ k)
+abbrev pub Known : List Given → Candidate → Type 0
+Known gs Absent = Unit {0}
+Known gs (Possible required n k) = Free gs n k
 
-abbrev pub AllKnown : List Mark → List Candidate → Type 0
-AllKnown ms [] = Unit {0}
-AllKnown ms (k ∷ ks) = Known ms k × AllKnown ms ks
+abbrev pub AllKnown : List Given → List Candidate → Type 0
+AllKnown gs [] = Unit {0}
+AllKnown gs (k ∷ ks) = Known gs k × AllKnown gs ks
 
--- what holds before each token: so many were given, there is a candidate for each level and the outermost, each is known, no character is 0
-pub record Ready (ms : List Mark) (count : ℕ) (ks : List Candidate) (ls : List Level) (p : Place) : Type 0 where
-  pub counted : count ≡ length ms
+-- the numbers of the candidates fall from b down
+abbrev pub Fall : ℕ → List Candidate → Type 0
+Fall b [] = Unit {0}
+Fall b (Absent ∷ ks) = Fall b ks
+Fall b (Possible required n k ∷ ks) = (n < b) × Fall n ks
+
+-- what holds before each token: so many were given, there is a candidate for each level and the outermost, each is known by a number of its own,
+-- and no character is 0
+pub record Ready (gs : List Given) (count : ℕ) (ks : List Candidate) (ls : List Level) (p : Place) : Type 0 where
+  pub counted : count ≡ length gs
   pub levelled : length ks ≡ suc (length ls)
-  pub known : AllKnown ms ks
+  pub known : AllKnown gs ks
+  pub ordered : Fall count ks
   pub no-nul : NoNul (p .rest)
 
-abbrev pub ReadyState : List Mark → State → Type 0
-ReadyState ms s = Ready ms (s .count) (s .keys) (s .levels) (s .place)
+abbrev pub ReadyState : List Given → State → Type 0
+ReadyState gs s = Ready gs (s .count) (s .keys) (s .levels) (s .place)
 
 -- the candidate's line is over
 abbrev pub Over : Mark → Candidate → Type 0
@@ -62,76 +86,136 @@ abbrev pub without-key : State → State
 without-key s = with-keys (set-key Absent (s .keys)) s
 
 -- what holds between two steps: the same; or the candidate is a block scalar's, which may start elsewhere, but whose line is over
-pub data Sound (ms : List Mark) (s : State) : Type 0 where
-  ready : ReadyState ms s → Sound ms s
-  late : in-flow s ≡ false → Over (mark-of s) (top-key (s .keys)) → ReadyState ms (without-key s) → Sound ms s
+pub data Sound (gs : List Given) (s : State) : Type 0 where
+  ready : ReadyState gs s → Sound gs s
+  late : in-flow s ≡ false → Over (mark-of s) (top-key (s .keys)) → ReadyState gs (without-key s) → Sound gs s
 
--- laws of the marks
+-- laws of what was given
 
-pub starts-length : (ms : List Mark) (es : List Event) → length (starts ms es) ≡ length ms + puts es
-unfolding starts puts
-starts-length ms [] = omega arith
-starts-length ms (put t ∷ es) = let h = starts-length (ms ++ (t .start ∷ [])) es in let k = length-append ms (t .start ∷ []) in omega arith
-starts-length ms (put-before n ts ∷ es) = starts-length ms es
+pub given-length : (gs : List Given) (es : List Event) → length (given gs es) ≡ length gs + puts es
+unfolding given puts
+given-length gs [] = omega arith
+given-length gs (put t ∷ es) =
+    let h = given-length (gs ++ (fresh (t .start) ∷ [])) es in
+    let k = length-append gs (fresh (t .start) ∷ []) in
+    omega arith
+given-length gs (put-before n ts ∷ es) =
+    let h = given-length (note-at n gs) es in
+    let k = length-set gs n (record { start = getD gs n (fresh origin) .start; noted = true }) in
+    omega arith
 
-pub starts-append : (ms : List Mark) (es fs : List Event) → starts ms (es ++ fs) ≡ starts (starts ms es) fs
-unfolding starts
-starts-append ms [] fs = refl
-starts-append ms (put t ∷ es) fs = starts-append (ms ++ (t .start ∷ [])) es fs
-starts-append ms (put-before n ts ∷ es) fs = starts-append ms es fs
+pub given-append : (gs : List Given) (es fs : List Event) → given gs (es ++ fs) ≡ given (given gs es) fs
+unfolding given
+given-append gs [] fs = refl
+given-append gs (put t ∷ es) fs = given-append (gs ++ (fresh (t .start) ∷ [])) es fs
+given-append gs (put-before n ts ∷ es) fs = given-append (note-at n gs) es fs
 
-pub placed-append : (ms : List Mark) (es fs : List Event) → Placed ms es → Placed (starts ms es) fs → Placed ms (es ++ fs)
-unfolding starts Placed
-placed-append ms [] fs h k = k
-placed-append ms (put t ∷ es) fs h k = placed-append (ms ++ (t .start ∷ [])) es fs h k
-placed-append ms (put-before n ts ∷ es) fs h k = (h .0, h .1, placed-append ms es fs (h .2) k)
+pub placed-append : (gs : List Given) (es fs : List Event) → Placed gs es → Placed (given gs es) fs → Placed gs (es ++ fs)
+unfolding given Placed
+placed-append gs [] fs h k = k
+placed-append gs (put t ∷ es) fs h k = placed-append (gs ++ (fresh (t .start) ∷ [])) es fs h k
+placed-append gs (put-before n ts ∷ es) fs h k = (h .0, h .1, h .2, placed-append (note-at n gs) es fs (h .3) k)
 
--- a candidate stays known
-known-more : (ms : List Mark) (m : Mark) (k : Candidate) → Known ms k → Known (ms ++ (m ∷ [])) k
-known-more ms m Absent h = tt
-known-more ms m (Possible required n k) h =
-    let e = length-append ms (m ∷ []) in
-    (omega arith, List·getD-append ms (m ∷ []) origin n (h .0) ∙ h .1)
+-- events that only give tokens
 
-all-known-more : (ms : List Mark) (m : Mark) (ks : List Candidate) → AllKnown ms ks → AllKnown (ms ++ (m ∷ [])) ks
-all-known-more ms m [] h = tt
-all-known-more ms m (k ∷ ks) h = (known-more ms m k (h .0), all-known-more ms m ks (h .1))
+unfoldable pub OnlyPuts : List Event → Type 0
+OnlyPuts [] = Unit {0}
+OnlyPuts (put t ∷ es) = OnlyPuts es
+OnlyPuts (put-before n ts ∷ es) = ⊥
 
-pub stays-known : (ms : List Mark) (es : List Event) (ks : List Candidate) → AllKnown ms ks → AllKnown (starts ms es) ks
-unfolding starts
-stays-known ms [] ks h = h
-stays-known ms (put t ∷ es) ks h = stays-known (ms ++ (t .start ∷ [])) es ks (all-known-more ms (t .start) ks h)
-stays-known ms (put-before n ts ∷ es) ks h = stays-known ms es ks h
+pub only-append : (es fs : List Event) → OnlyPuts es → OnlyPuts fs → OnlyPuts (es ++ fs)
+unfolding OnlyPuts
+only-append [] fs h k = k
+only-append (put t ∷ es) fs h k = only-append es fs h k
+only-append (put-before n ts ∷ es) fs h k = absurd h
+
+pub only-ends : (n : ℕ) (m : Mark) → OnlyPuts (block-ends n m)
+unfolding OnlyPuts
+only-ends zero m = tt
+only-ends (suc n) m = only-ends n m
+
+pub only-if : (b : Bool) (k : Kind) (m : Mark) → OnlyPuts (empty-if b k m)
+unfolding OnlyPuts
+only-if b k m = by-pick OnlyPuts b _ _ tt tt
+
+pub only-one : (t : Token) → OnlyPuts (put t ∷ [])
+unfolding OnlyPuts
+only-one t = tt
+
+pub only-placed : (gs : List Given) (es : List Event) → OnlyPuts es → Placed gs es
+unfolding OnlyPuts Placed
+only-placed gs [] h = tt
+only-placed gs (put t ∷ es) h = only-placed (gs ++ (fresh (t .start) ∷ [])) es h
+only-placed gs (put-before n ts ∷ es) h = absurd h
+
+-- a candidate stays known when a token is given
+
+pub known-more : (gs : List Given) (g : Given) (ks : List Candidate) → AllKnown gs ks → AllKnown (gs ++ (g ∷ [])) ks
+known-more gs g [] h = tt
+known-more gs g (Absent ∷ ks) h = (tt, known-more gs g ks (h .1))
+known-more gs g (Possible required n k ∷ ks) h =
+    let e = length-append gs (g ∷ []) in
+    let f = h .0 in
+    ((omega arith, List·getD-append gs (g ∷ []) (fresh origin) n (f .0) ∙ f .1), known-more gs g ks (h .1))
+
+pub stays-known : (gs : List Given) (es : List Event) (ks : List Candidate) → OnlyPuts es → AllKnown gs ks → AllKnown (given gs es) ks
+unfolding given OnlyPuts
+stays-known gs [] ks o h = h
+stays-known gs (put t ∷ es) ks o h = stays-known (gs ++ (fresh (t .start) ∷ [])) es ks o (known-more gs (fresh (t .start)) ks h)
+stays-known gs (put-before n ts ∷ es) ks o h = absurd o
+
+-- and when tokens are put in before one that came later
+
+pub fall-less : (a b : ℕ) (ks : List Candidate) → a ≤ b → Fall a ks → Fall b ks
+fall-less a b [] h f = tt
+fall-less a b (Absent ∷ ks) h f = fall-less a b ks h f
+fall-less a b (Possible required n k ∷ ks) h f = (omega arith, f .1)
+
+pub noted-known : (gs : List Given) (n : ℕ) (ks : List Candidate) → Fall n ks → AllKnown gs ks → AllKnown (note-at n gs) ks
+noted-known gs n [] f h = tt
+noted-known gs n (Absent ∷ ks) f h = (tt, noted-known gs n ks f (h .1))
+noted-known gs n (Possible required j k ∷ ks) f h =
+    let g : Given = record { start = getD gs n (fresh origin) .start; noted = true } in
+    let i = f .0 in
+    let e = h .0 in
+    let l = length-set gs n g in
+    ((omega arith, getD-set-other gs n j g (fresh origin) (λ z. absurd (omega arith)) ∙ e .1), noted-known gs n ks (fall-less j n ks (omega arith) (f .1)) (h .1))
 
 -- the token that comes next is known by its number
-pub known-next : (ms : List Mark) (n : ℕ) (m : Mark) → n ≡ length ms → (n < length (ms ++ (m ∷ []))) × (getD (ms ++ (m ∷ [])) n origin ≡ m)
-known-next ms n m e =
-    let f = length-append ms (m ∷ []) in
-    (omega arith, rw e (getD-append-seam ms m [] origin))
+pub known-next : (gs : List Given) (n : ℕ) (m : Mark) → n ≡ length gs → Free (gs ++ (fresh m ∷ [])) n m
+known-next gs n m e =
+    let f = length-append gs (fresh m ∷ []) in
+    (omega arith, rw e (getD-append-seam gs (fresh m) [] (fresh origin)))
 
--- no event but `put-before` has a premise
+-- a state without its candidate
 
-pub placed-ends : (ms : List Mark) (n : ℕ) (m : Mark) → Placed ms (block-ends n m)
-unfolding Placed
-placed-ends ms zero m = tt
-placed-ends ms (suc n) m = placed-ends (ms ++ (m ∷ [])) n m
+known-drop : (gs : List Given) (ks : List Candidate) → AllKnown gs ks → AllKnown gs (drop 1 ks)
+known-drop gs [] h = h
+known-drop gs (k ∷ ks) h = h .1
 
-pub placed-if : (ms : List Mark) (b : Bool) (k : Kind) (m : Mark) → Placed ms (empty-if b k m)
-unfolding Placed
-placed-if ms b k m = by-pick (Placed ms) b _ _ tt tt
+fall-drop : (b : ℕ) (ks : List Candidate) → Fall b ks → Fall b (drop 1 ks)
+fall-drop b [] f = f
+fall-drop b (Absent ∷ ks) f = f
+fall-drop b (Possible required n k ∷ ks) f = fall-less n b ks (omega (arith, f .0)) (f .1)
 
--- a state whose candidate is set anew
-
-known-drop : (ms : List Mark) (ks : List Candidate) → AllKnown ms ks → AllKnown ms (drop 1 ks)
-known-drop ms [] h = h
-known-drop ms (k ∷ ks) h = h .1
-
-pub known-top : (ms : List Mark) (ks : List Candidate) → AllKnown ms ks → Known ms (top-key ks)
-unfolding top-key
-known-top ms [] h = tt
-known-top ms (k ∷ ks) h = h .0
-
-pub set-ready : {ms : List Mark} {n : ℕ} {ks : List Candidate} {ls : List Level} {p : Place} (k : Candidate) → Ready ms n ks ls p → Known ms k → Ready ms n (set-key k ks) ls p
-set-ready {ms} {ks} k r h =
+pub without-ready : {gs : List Given} {n : ℕ} {ks : List Candidate} {ls : List Level} {p : Place} → Ready gs n ks ls p → Ready gs n (set-key Absent ks) ls p
+without-ready {gs} {n} {ks} r =
     let e = length-drop 1 ks in
-    record { counted = r .counted; levelled = omega arith; known = (h, known-drop ms ks (r .known)); no-nul = r .no-nul }
+    record { counted = r .counted; levelled = omega arith; known = (tt, known-drop gs ks (r .known)); ordered = fall-drop n ks (r .ordered); no-nul = r .no-nul }
+
+-- or with it set to what it was
+pub same-ready : {gs : List Given} {n : ℕ} {ls : List Level} {p : Place} (ks : List Candidate) → Ready gs n ks ls p → Ready gs n (set-key (top-key ks) ks) ls p
+unfolding top-key
+same-ready [] r = let e = r .levelled in absurd (omega arith)
+same-ready (k ∷ ks) r = r
+
+-- what a candidate on top says of the others
+abbrev pub Tops : List Given → List Candidate → Candidate → Type 0
+Tops gs ks Absent = Unit {0}
+Tops gs ks (Possible required n k) = Free gs n k × Fall n (drop 1 ks)
+
+pub top-tops : (gs : List Given) (b : ℕ) (ks : List Candidate) → AllKnown gs ks → Fall b ks → Tops gs ks (top-key ks)
+unfolding top-key
+top-tops gs b [] h f = tt
+top-tops gs b (Absent ∷ ks) h f = tt
+top-tops gs b (Possible required n k ∷ ks) h f = (h .0, f .1)

@@ -5,25 +5,25 @@ use mathlib.Core.List.{List, [], _++_, _∷_}
 use lib.Dec.{eqb, ltb}
 use lib.ListN.{drop}
 use Rattle.yaml_text.specs.declared.Mark.{Mark}
-use Rattle.yaml_scan.specs.declared.Choice.{Choice}
-use Rattle.yaml_scan.specs.declared.Choice.the-variants.{AtEnd, AtDirective, AtByteOrderMark, BelowIndent, Stray, AtMarker, Opens, Closes, AtComma, AtDash, AtQuestion, AtColon, AtTag, AtPlain, AtAnchor, AtBlock, AtQuoted}
 use Rattle.yaml_text.specs.Pick.{pick}
 use Rattle.yaml_text.specs.Char.{'!', '%', '&', '*', '-', ':', '>', '?', '[', ']', '`', '|', at-sign, byte-order-mark, close-brace, comma, double-quote, open-brace, single-quote}
 use Rattle.yaml_text.specs.Class.{among, isBlankOrBreakz, isBom, isBreakz, isFlow, isZ, peek}
 use Rattle.yaml_text.specs.Mark.{Place, edge-of, here, isMarker, look, over-bom, skip-by}
-use Rattle.yaml_lexeme.specs.Token.{ByteOrderMark, DocumentEnd, DocumentStart, StreamEnd, empty-token}
 use Rattle.yaml_text.specs.Refusal.{Read, _>>=_, got, need, refused}
+use Rattle.yaml_lexeme.specs.Token.{ByteOrderMark, DocumentEnd, DocumentStart, StreamEnd, empty-token}
 use Rattle.yaml_lexeme.specs.Gap.{blanks-and-comment}
-use Rattle.yaml_scan.specs.Indent.{drop-non-ending}
-use Rattle.yaml_scan.specs.Keys.{remove, top-key}
-use Rattle.yaml_scan.specs.declared.Limits.{Limits}
-use Rattle.yaml_scan.specs.State.{Event, News, State, adjacent-here, allow, at-place, block-ends, emit, emit-lexeme, ends-with, in-flow, mark-of, put, remove-key, rest-of, save-key, unroll-to, with-indents}
 use Rattle.yaml_lexeme.specs.Plain.{scan-plain-scalar}
 use Rattle.yaml_lexeme.specs.Quoted.{scan-flow-scalar}
 use Rattle.yaml_lexeme.specs.Block.{scan-block-scalar}
 use Rattle.yaml_lexeme.specs.Tag.{scan-tag}
 use Rattle.yaml_lexeme.specs.Anchor.{scan-anchor}
 use Rattle.yaml_lexeme.specs.Directive.{scan-directive}
+use Rattle.yaml_scan.specs.declared.Choice.{Choice}
+use Rattle.yaml_scan.specs.declared.Choice.the-variants.{AtAnchor, AtBlock, AtByteOrderMark, AtColon, AtComma, AtDash, AtDirective, AtEnd, AtMarker, AtPlain, AtQuestion, AtQuoted, AtTag, BelowIndent, Closes, Opens, Stray}
+use Rattle.yaml_scan.specs.Indent.{drop-non-ending}
+use Rattle.yaml_scan.specs.Keys.{remove, top-key}
+use Rattle.yaml_scan.specs.declared.Limits.{Limits}
+use Rattle.yaml_scan.specs.State.{Event, News, State, adjacent-here, allow, at-place, block-ends, emit, emit-lexeme, ends-with, in-flow, mark-of, put, remove-key, rest-of, save-key, unroll-to, with-indents}
 use Rattle.yaml_scan.specs.Bracket.{fetch-flow-collection-end, fetch-flow-collection-start, fetch-flow-entry}
 use Rattle.yaml_scan.specs.Value.{fetch-block-entry, fetch-key, fetch-value, takes-colon}
 

@@ -4,8 +4,8 @@ use mathlib.Core.Bool.{Bool, _&&_, _||_, false, not, true}
 use mathlib.Core.List.{List, [], _∷_}
 use mathlib.Core.Path.{_≡_, sym}
 use lib.Dec.{eqb, ltb}
-use borrow.Author.Tests.{ne-eqb}
 use lib.ListN.{length}
+use borrow.Author.Tests.{ne-eqb}
 use Rattle.yaml_text.specs.declared.Mark.{Mark}
 use Rattle.yaml_text.specs.Char.{'!', '%', '&', '*', '-', ':', '>', '?', '[', ']', '`', '|', at-sign, byte-order-mark, close-brace, comma, dot, double-quote, open-brace, single-quote}
 use Rattle.yaml_text.specs.Class.{among, isBlankOrBreakz, isBom, isFlow, isZ, peek}
@@ -17,11 +17,11 @@ use Rattle.yaml_scan.specs.declared.Choice.{Choice}
 use Rattle.yaml_scan.specs.declared.Choice.the-variants.{AtAnchor, AtBlock, AtByteOrderMark, AtColon, AtComma, AtDash, AtDirective, AtEnd, AtMarker, AtPlain, AtQuestion, AtQuoted, AtTag, BelowIndent, Closes, Opens, Stray}
 use Rattle.yaml_scan.specs.Keys.{top-key}
 use Rattle.yaml_scan.specs.declared.Limits.{Limits}
-use Rattle.yaml_scan.specs.State.{News, State, in-flow, mark-of, rest-of, unroll-to}
+use Rattle.yaml_scan.specs.State.{News, State, in-flow, mark-of, rest-of}
 use Rattle.yaml_scan.specs.Value.{takes-colon}
-use Rattle.yaml_scan.specs.Choice.{choice, indicator, fetch, forced}
-use Rattle.yaml_scan.specs.Candidates.{known-top}
-use Rattle.yaml_scan.specs.Fetches.{Fetched, flow-collection-start-news, flow-collection-end-news, flow-entry-news, block-entry-news, key-news, value-by-news, plain-scalar-news, flow-scalar-news, tag-news, anchor-news, block-scalar-news, directive-news, byte-order-mark-news, document-indicator-news, placed-last, stream-end-all}
+use Rattle.yaml_scan.specs.Choice.{choice, fetch, indicator}
+use Rattle.yaml_scan.specs.Candidates.{Given, top-tops}
+use Rattle.yaml_scan.specs.Fetches.{Fetched, anchor-news, block-entry-news, block-scalar-news, byte-order-mark-news, directive-news, document-indicator-news, flow-collection-end-news, flow-collection-start-news, flow-entry-news, flow-scalar-news, key-news, plain-scalar-news, stream-end-news, tag-news, value-by-news}
 
 -- what the fetch of a choice needs to know of the state
 abbrev pub Says : Choice → State → Type 0
@@ -91,22 +91,22 @@ choice-says s =
     P : Choice → Type 0
     P k = Says k s
 
-pub fetch-news : (ms : List Mark) (limits : Limits) (c : Choice) (s : State) → Says c s → All News (Fetched ms s) (fetch limits c s)
+pub fetch-news : (gs : List Given) (limits : Limits) (c : Choice) (s : State) → Says c s → All News (Fetched gs s) (fetch limits c s)
 unfolding fetch
-fetch-news ms limits AtEnd s h = stream-end-all s (λ r. placed-last ms (unroll-to 0 s .ended) (forced (mark-of s)) _)
-fetch-news ms limits AtDirective s h = directive-news ms s
-fetch-news ms limits AtByteOrderMark s h = byte-order-mark-news ms s
-fetch-news ms limits BelowIndent s h = not-read
-fetch-news ms limits Stray s h = not-read
-fetch-news ms limits (AtMarker begins) s h = document-indicator-news ms begins s h
-fetch-news ms limits (Opens sequence) s h = flow-collection-start-news ms limits sequence s
-fetch-news ms limits (Closes sequence) s h = flow-collection-end-news ms sequence s
-fetch-news ms limits AtComma s h = flow-entry-news ms s
-fetch-news ms limits AtDash s h = block-entry-news ms limits s
-fetch-news ms limits AtQuestion s h = key-news ms limits s
-fetch-news ms limits AtColon s h = value-by-news ms limits (top-key (s .keys)) s (λ r. known-top ms (s .keys) (r .known))
-fetch-news ms limits AtTag s h = tag-news ms s
-fetch-news ms limits AtPlain s h = plain-scalar-news ms s
-fetch-news ms limits (AtAnchor alias) s h = anchor-news ms alias s
-fetch-news ms limits (AtBlock literal) s h = block-scalar-news ms literal s h
-fetch-news ms limits (AtQuoted single) s h = flow-scalar-news ms single s
+fetch-news gs limits AtEnd s h = stream-end-news gs s (λ es k. k)
+fetch-news gs limits AtDirective s h = directive-news gs s
+fetch-news gs limits AtByteOrderMark s h = byte-order-mark-news gs s
+fetch-news gs limits BelowIndent s h = not-read
+fetch-news gs limits Stray s h = not-read
+fetch-news gs limits (AtMarker begins) s h = document-indicator-news gs begins s h
+fetch-news gs limits (Opens sequence) s h = flow-collection-start-news gs limits sequence s
+fetch-news gs limits (Closes sequence) s h = flow-collection-end-news gs sequence s
+fetch-news gs limits AtComma s h = flow-entry-news gs s
+fetch-news gs limits AtDash s h = block-entry-news gs limits s
+fetch-news gs limits AtQuestion s h = key-news gs limits s
+fetch-news gs limits AtColon s h = value-by-news gs limits (top-key (s .keys)) s (λ r. top-tops gs (s .count) (s .keys) (r .known) (r .ordered))
+fetch-news gs limits AtTag s h = tag-news gs s
+fetch-news gs limits AtPlain s h = plain-scalar-news gs s
+fetch-news gs limits (AtAnchor alias) s h = anchor-news gs alias s
+fetch-news gs limits (AtBlock literal) s h = block-scalar-news gs literal s h
+fetch-news gs limits (AtQuoted single) s h = flow-scalar-news gs single s

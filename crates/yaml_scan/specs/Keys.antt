@@ -5,9 +5,9 @@ use mathlib.Core.List.{List, [], _∷_}
 use lib.Dec.{ltb}
 use lib.ListN.{drop}
 use Rattle.yaml_text.specs.declared.Mark.{Mark}
+use Rattle.yaml_text.specs.Refusal.{Read, _>>=_, got, need}
 use Rattle.yaml_scan.specs.declared.Candidate.{Candidate}
 use Rattle.yaml_scan.specs.declared.Candidate.the-variants.{Absent, Possible}
-use Rattle.yaml_text.specs.Refusal.{Read, _>>=_, got, need}
 
 -- the candidate of the current level: one is kept per level, the current level's first, so the list is never empty
 unfoldable pub top-key : List Candidate → Candidate

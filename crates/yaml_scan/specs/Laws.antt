@@ -6,20 +6,20 @@ use mathlib.Core.Path.{_≡_, refl, sym}
 use native.Mathlib.Omega.{arith}
 use lib.Dec.{ltb}
 use lib.ListN.{length, length-append, length-replicate, replicate}
+use borrow.Author.Tests.{ltb-false}
 use Rattle.yaml_text.specs.declared.Mark.{Mark}
 use Rattle.yaml_text.specs.Mark.{edge-of, origin}
 use Rattle.yaml_text.specs.Refusal.{got}
+use Rattle.yaml_text.specs.Test.{by-test, true-false}
 use Rattle.yaml_lexeme.specs.Token.{Token, texts}
 use Rattle.yaml_lexeme.specs.Held.{records}
+use Rattle.yaml_lexeme.specs.TokenLaws.{records-length}
 use Rattle.yaml_scan.specs.declared.Level.{Level}
 use Rattle.yaml_scan.specs.Indent.{roll-at}
 use Rattle.yaml_scan.specs.declared.Limits.{Limits}
 use Rattle.yaml_scan.specs.State.{State, in-flow, mark-of}
 use Rattle.yaml_scan.specs.Value.{begins-pair, roll-state}
-use Rattle.yaml_scan.specs.Scan.{Outcome, Verdict, after-step, answer, answer-for, lent, no-verdict, outcome, refusal, run, scanned, settled, spent, step, stopped, Answer, blank-answer, filled}
-use borrow.Author.Tests.{ltb-false}
-use Rattle.yaml_text.specs.Test.{by-test, true-false}
-use Rattle.yaml_lexeme.specs.TokenLaws.{records-length}
+use Rattle.yaml_scan.specs.Scan.{Answer, Outcome, Verdict, after-step, answer, answer-for, blank-answer, filled, lent, no-verdict, outcome, refusal, run, scanned, settled, spent, step, stopped}
 
 pub run-turned : (limits : Limits) (k : ℕ) (s : State) → run limits (suc k) s ≡ after-step (step limits s) (λ s'. run limits k s')
 unfolding run

@@ -3,14 +3,11 @@ use Prim.Native.Nat.{ℕ}
 use Rattle.yaml_text.specs.Utf8.{byLen, bytesOf, encode, first, four, isScalar, isTail, lenOf, three, two}
 use Rattle.yaml_text.specs.Class.{among, asHex, isAlpha, isAnchor, isBlank, isBlankOrBreakz, isBom, isBreak, isBreakz, isDigit, isFlow, isHex, isNonSpace, isTag, isUri, isWord, isZ, none-left, same}
 use Rattle.yaml_text.specs.Mark.{break-length, ends-line, halfBreak, isMarker, over, skip-break, word}
-use Rattle.yaml_lexeme.specs.Token.{kind-bytes, texts}
-use Rattle.yaml_lexeme.specs.Held.{laid, number-of, record-of, records, style-number, values-of}
 use Rattle.yaml_text.specs.Refusal.{_>>=_, before-read, need}
 use Rattle.yaml_text.specs.Decode.{decode}
+use Rattle.yaml_lexeme.specs.Token.{kind-bytes, texts}
+use Rattle.yaml_lexeme.specs.Held.{laid, number-of, record-of, records, style-number, values-of}
 use Rattle.yaml_lexeme.specs.Gap.{blanks, blanks-and-comment, comment-after, gap-turn, isLeading, on-blank, on-hash, on-other, skip-gap, to-break}
-use Rattle.yaml_scan.specs.Indent.{drop-for, drop-non-ending, roll, roll-at, stack, top-ends, unroll}
-use Rattle.yaml_scan.specs.Keys.{lapse, remove, stale, top-key}
-use Rattle.yaml_scan.specs.State.{in-flow, lapse-key, on-level, puts, remove-key, save-key}
 use Rattle.yaml_lexeme.specs.Plain.{glue, plain-stops, plain-text, scan-plain-scalar}
 use Rattle.yaml_lexeme.specs.Escape.{escape, escape-of, hex-number, named}
 use Rattle.yaml_lexeme.specs.Quoted.{broken, fits-after, folds-to, quoted-blank, quoted-break, quoted-char, quoted-line, quoted-run, quoted-text, quoted-turn, scan-flow-scalar}
@@ -18,6 +15,9 @@ use Rattle.yaml_lexeme.specs.Block.{block-content, chomped, chomping-of, conten
 use Rattle.yaml_lexeme.specs.Tag.{code-point, handled, octet, percent, primary, scan-tag, tag-texts, trailing, uri-run, verbatim}
 use Rattle.yaml_lexeme.specs.Anchor.{scan-anchor}
 use Rattle.yaml_lexeme.specs.Directive.{directive-of, parameters, reserved-directive, scan-directive, tag-directive, tag-handle, tag-prefix, version-digits, version-directive, version-number}
+use Rattle.yaml_scan.specs.Indent.{drop-for, drop-non-ending, roll, roll-at, stack, top-ends, unroll}
+use Rattle.yaml_scan.specs.Keys.{lapse, remove, stale, top-key}
+use Rattle.yaml_scan.specs.State.{in-flow, lapse-key, on-level, puts, remove-key, save-key}
 use Rattle.yaml_scan.specs.Bracket.{closes-level, fetch-flow-collection-end, fetch-flow-collection-start, fetch-flow-entry, has-level-room, implicit-open, scan-bracket, stack-bracket}
 use Rattle.yaml_scan.specs.Value.{begins-pair, fetch-block-entry, fetch-key, takes-colon, value-by, value-with, value-without}
 use Rattle.yaml_scan.specs.Choice.{after-marker, choice, fetch, fetch-anchor, fetch-block-scalar, fetch-byte-order-mark, fetch-directive, fetch-document-indicator, fetch-flow-scalar, fetch-plain-scalar, fetch-stream-end, fetch-tag, forced, indicator, leave-blocks}

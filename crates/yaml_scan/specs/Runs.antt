@@ -22,82 +22,80 @@ use Rattle.yaml_scan.specs.declared.Level.{Level}
 use Rattle.yaml_scan.specs.Indent.{Indents}
 use Rattle.yaml_scan.specs.Keys.{lapse, set-key, stale, top-key}
 use Rattle.yaml_scan.specs.declared.Limits.{Limits}
-use Rattle.yaml_scan.specs.State.{Event, News, State, allow, at-place, block-ends, counting, ends-with, goes-on, in-flow, lapse-key, mark-of, preceded, puts, rest-of, unroll-to, with-indents}
-use Rattle.yaml_scan.specs.Choice.{choice, fetch, fetch-next, forced}
+use Rattle.yaml_scan.specs.State.{Event, News, State, allow, at-place, block-ends, counting, ends-with, goes-on, in-flow, lapse-key, mark-of, preceded, puts, rest-of, with-indents}
+use Rattle.yaml_scan.specs.Choice.{choice, fetch, fetch-next}
 use Rattle.yaml_scan.specs.Scan.{begin, step, to-next-token, unrolled}
-use Rattle.yaml_scan.specs.Candidates.{late, ready, Known, Over, Placed, Ready, ReadyState, Sound, known-top, placed-append, placed-ends, set-ready, starts, starts-append, starts-length, stays-known}
-use Rattle.yaml_scan.specs.Fetches.{Fetched, placed-last, removed, stream-end-all}
+use Rattle.yaml_scan.specs.Candidates.{Given, Over, Placed, Ready, ReadyState, Sound, fall-less, fresh, given, given-append, given-length, late, only-ends, only-placed, placed-append, ready, same-ready, stays-known, without-ready}
+use Rattle.yaml_scan.specs.Fetches.{Fetched, removed, stream-end-news}
 use Rattle.yaml_scan.specs.ChoiceLaws.{choice-says, fetch-news}
 
 -- the gap and the lapse
 
-move-ready : {ms : List Mark} {n : ℕ} {ks : List Candidate} {ls : List Level} {p q : Place} → Fits p q → Ready ms n ks ls p → Ready ms n ks ls q
-move-ready f r = record { counted = r .counted; levelled = r .levelled; known = r .known; no-nul = fits-no-nul f (r .no-nul) }
+move-ready : {gs : List Given} {n : ℕ} {ks : List Candidate} {ls : List Level} {p q : Place} → Fits p q → Ready gs n ks ls p → Ready gs n ks ls q
+move-ready f r = record { counted = r .counted; levelled = r .levelled; known = r .known; ordered = r .ordered; no-nul = fits-no-nul f (r .no-nul) }
 
 still-over : (m m' : Mark) (k : Candidate) → m .line ≤ m' .line → Over m k → Over m' k
 still-over m m' Absent h o = tt
 still-over m m' (Possible required n k) h o = omega arith
 
 -- over a gap the state stays sound
-over-gap : {ms : List Mark} (s : State) (p : Place) (leads a : Bool) → Fits (s .place) p → Sound ms s → Sound ms (at-place p leads (allow a s))
+over-gap : {gs : List Given} (s : State) (p : Place) (leads a : Bool) → Fits (s .place) p → Sound gs s → Sound gs (at-place p leads (allow a s))
 unfolding in-flow
 over-gap s p leads a f (ready r) = ready (move-ready f r)
 over-gap s p leads a f (late e o r) = late e (still-over (mark-of s) (p .mark) (top-key (s .keys)) (f .line-on) o) (move-ready f r)
 
--- a candidate that is known, or whose line is over, is known or gone behind the lapse
-lapsed : (ms : List Mark) (m : Mark) (k : Candidate) → All Candidate (λ c. Known ms k ⊎ Over m k → Known ms c) (lapse m k)
+-- behind the lapse a candidate is gone, or it is the same and its line is not over
+lapsed : (m : Mark) (k : Candidate) → All Candidate (λ c. (c ≡ Absent) ⊎ ((c ≡ k) × (Over m k → ⊥))) (lapse m k)
 unfolding lapse stale
-lapsed ms m Absent = holds (λ _. tt)
-lapsed ms m (Possible required n k) =
+lapsed m Absent = holds (inl refl)
+lapsed m (Possible required n k) =
     by-test (stale k m)
-    (λ e. rw (e, lapse) (all-weak (λ c f _. rw f tt) (removed m (Possible required n k))))
-    (λ e. rw (e, lapse) (holds (still-known e)))
-  where
-    still-known : stale k m ≡ false → Known ms (Possible required n k) ⊎ Over m (Possible required n k) → Known ms (Possible required n k)
-    still-known e (inl h) = h
-    still-known e (inr o) = true-false (rw (lt-ltb (k .line) (m .line) o) at e)
+    (λ e. rw (e, lapse) (all-weak (λ c f. inl f) (removed m (Possible required n k))))
+    (λ e. rw (e, lapse) (holds (inr (refl, λ o. true-false (rw (lt-ltb (k .line) (m .line) o) at e)))))
 
-lapse-key-ready : (ms : List Mark) (s : State) → All State (λ t. (t .place ≡ s .place) × (Sound ms s → ReadyState ms t)) (lapse-key s)
+lapse-key-ready : (gs : List Given) (s : State) → All State (λ t. (t .place ≡ s .place) × (Sound gs s → ReadyState gs t)) (lapse-key s)
 unfolding lapse-key
-lapse-key-ready ms s =
+lapse-key-ready gs s =
     by-test (in-flow s)
     (λ e. rw (e, lapse-key) (holds (refl, in-level e)))
-    (λ e. rw (e, lapse-key) (all-bind _ (lapsed ms (mark-of s) (top-key (s .keys))) (λ c f. holds (refl, outside c f))))
+    (λ e. rw (e, lapse-key) (all-bind _ (lapsed (mark-of s) (top-key (s .keys))) (λ c f. holds (refl, outside c f))))
   where
-    in-level : in-flow s ≡ true → Sound ms s → ReadyState ms s
+    in-level : in-flow s ≡ true → Sound gs s → ReadyState gs s
     in-level e (ready r) = r
     in-level e (late f o r) = true-false (sym e ∙ f)
 
-    outside : (c : Candidate) → (Known ms (top-key (s .keys)) ⊎ Over (mark-of s) (top-key (s .keys)) → Known ms c) → Sound ms s
-        → Ready ms (s .count) (set-key c (s .keys)) (s .levels) (s .place)
-    outside c f (ready r) = set-ready c r (f (inl (known-top ms (s .keys) (r .known))))
-    outside c f (late e o r) = set-ready c r (f (inr o))
+    outside : (c : Candidate) → (c ≡ Absent) ⊎ ((c ≡ top-key (s .keys)) × (Over (mark-of s) (top-key (s .keys)) → ⊥)) → Sound gs s
+        → Ready gs (s .count) (set-key c (s .keys)) (s .levels) (s .place)
+    outside c (inl e) (ready r) = rw e (without-ready r)
+    outside c (inl e) (late f o r) = rw e r
+    outside c (inr h) (ready r) = rw (h .0) (same-ready (s .keys) r)
+    outside c (inr h) (late f o r) = absurd (h .1 o)
 
-to-next-token-ready : (ms : List Mark) (s : State) → All State (λ t. Fits (s .place) (t .place) × (Sound ms s → ReadyState ms t)) (to-next-token s)
+to-next-token-ready : (gs : List Given) (s : State) → All State (λ t. Fits (s .place) (t .place) × (Sound gs s → ReadyState gs t)) (to-next-token s)
 unfolding to-next-token
-to-next-token-ready ms s =
+to-next-token-ready gs s =
     all-bind _ (skip-gap-fit _ _ _ (mark-of s) (rest-of s))
-    (λ g f. all-weak (λ t h. (rw (h .0) f, λ k. h .1 (over-gap s (g .place) (g .leads) (g .allowed) f k))) (lapse-key-ready ms _))
+    (λ g f. all-weak (λ t h. (rw (h .0) f, λ k. h .1 (over-gap s (g .place) (g .leads) (g .allowed) f k))) (lapse-key-ready gs _))
 
 -- one token
 
 -- it takes a character, or ends the run
-abbrev Next : List Mark → State → News → Type 0
-Next ms s (goes-on es t) = (left (t .place) < left (s .place)) × Fits (s .place) (t .place) × (ReadyState ms s → Placed ms es × Sound (starts ms es) t)
-Next ms s (ends-with es) = ReadyState ms s → Placed ms es
+abbrev Next : List Given → State → News → Type 0
+Next gs s (goes-on es t) = (left (t .place) < left (s .place)) × Fits (s .place) (t .place) × (ReadyState gs s → Placed gs es × Sound (given gs es) t)
+Next gs s (ends-with es) = ReadyState gs s → Placed gs es
 
-takes-first : (ms : List Mark) (s : State) → 1 ≤ left (s .place) → (w : News) → Fetched ms s w → Next ms s w
-takes-first ms s h (goes-on es t) f =
+takes-first : (gs : List Given) (s : State) → 1 ≤ left (s .place) → (w : News) → Fetched gs s w → Next gs s w
+takes-first gs s h (goes-on es t) f =
     let g = skip-fit 1 (s .place) h in
     (omega (arith, fits-left (f .0), fits-left g), fits-trans g (f .0), f .1)
-takes-first ms s h (ends-with es) f = f
+takes-first gs s h (ends-with es) f = f
 
-next-news : (ms : List Mark) (limits : Limits) (s : State) → All News (Next ms s) (fetch-next limits s)
+next-news : (gs : List Given) (limits : Limits) (s : State) → All News (Next gs s) (fetch-next limits s)
 unfolding choice fetch isZ
-next-news ms limits s =
+next-news gs limits s =
     by-test (isZ (look (s .place)))
-    (λ e. rw (e, choice) (stream-end-all s (λ r. placed-last ms (unroll-to 0 s .ended) (forced (mark-of s)) _)))
-    (λ e. all-weak (takes-first ms s (some (rest-of s) e)) (fetch-news ms limits (choice s) s (choice-says s)))
+    (λ e. rw (e, choice) (stream-end-news gs s (λ es k. k)))
+    (λ e. all-weak (takes-first gs s (some (rest-of s) e)) (fetch-news gs limits (choice s) s (choice-says s)))
   where
     some : (cs : List ℕ) → isZ (peek cs 0) ≡ false → 1 ≤ length cs
     some [] e = true-false e
@@ -105,15 +103,15 @@ next-news ms limits s =
 
 -- a step
 
--- from the state s, after tokens that start at the marks ms, on to the state t
-pub record Goes (ms : List Mark) (s : State) (es : List Event) (t : State) : Type 0 where
+-- from the state s, after the tokens gs, on to the state t
+pub record Goes (gs : List Given) (s : State) (es : List Event) (t : State) : Type 0 where
   pub takes : left (t .place) < left (s .place)
   pub onward : Fits (s .place) (t .place)
-  pub sound : Sound ms s → Placed ms es × Sound (starts ms es) t
+  pub sound : Sound gs s → Placed gs es × Sound (given gs es) t
 
-abbrev pub Stepped : List Mark → State → News → Type 0
-Stepped ms s (goes-on es t) = Goes ms s es t
-Stepped ms s (ends-with es) = Sound ms s → Placed ms es
+abbrev pub Stepped : List Given → State → News → Type 0
+Stepped gs s (goes-on es t) = Goes gs s es t
+Stepped gs s (ends-with es) = Sound gs s → Placed gs es
 
 puts-ends : (n : ℕ) (m : Mark) → puts (block-ends n m) ≡ n
 unfolding puts
@@ -121,31 +119,37 @@ puts-ends zero m = refl
 puts-ends (suc n) m = ap suc (puts-ends n m)
 
 -- behind the ends of blocks
-ends-ready : {ms : List Mark} {c : ℕ} {ks : List Candidate} {ls : List Level} {p : Place} (n : ℕ) (m : Mark) → Ready ms c ks ls p → Ready (starts ms (block-ends n m)) (c + n) ks ls p
-ends-ready {ms} {ks} n m r =
-    let e = starts-length ms (block-ends n m) in
+ends-ready : {gs : List Given} {c : ℕ} {ks : List Candidate} {ls : List Level} {p : Place} (n : ℕ) (m : Mark) → Ready gs c ks ls p → Ready (given gs (block-ends n m)) (c + n) ks ls p
+ends-ready {gs} {c} {ks} n m r =
+    let e = given-length gs (block-ends n m) in
     let f = puts-ends n m in
-    record { counted = omega arith; levelled = r .levelled; known = stays-known ms (block-ends n m) ks (r .known); no-nul = r .no-nul }
+    record {
+      counted = omega arith;
+      levelled = r .levelled;
+      known = stays-known gs (block-ends n m) ks (only-ends n m) (r .known);
+      ordered = fall-less c (c + n) ks (omega arith) (r .ordered);
+      no-nul = r .no-nul;
+    }
 
 -- a gap, the ends of blocks, and one token
-stepped : (ms : List Mark) (s t : State) (n : ℕ) (i : Indents) → Fits (s .place) (t .place) → (Sound ms s → ReadyState ms t) → (w : News)
-    → Next (starts ms (block-ends n (mark-of t))) (counting n (with-indents i t)) w → Stepped ms s (preceded (block-ends n (mark-of t)) w)
-stepped ms s t n i f r (goes-on es u) h =
+stepped : (gs : List Given) (s t : State) (n : ℕ) (i : Indents) → Fits (s .place) (t .place) → (Sound gs s → ReadyState gs t) → (w : News)
+    → Next (given gs (block-ends n (mark-of t))) (counting n (with-indents i t)) w → Stepped gs s (preceded (block-ends n (mark-of t)) w)
+stepped gs s t n i f r (goes-on es u) h =
     let bs = block-ends n (mark-of t) in
     record {
       takes = omega (arith, fits-left f, h .0);
       onward = fits-trans f (h .1);
-      sound = λ k. let j = h .2 (ends-ready n (mark-of t) (r k)) in (placed-append ms bs es (placed-ends ms n (mark-of t)) (j .0), rw (starts-append ms bs es) (j .1));
+      sound = λ k. let j = h .2 (ends-ready n (mark-of t) (r k)) in (placed-append gs bs es (only-placed gs _ (only-ends n (mark-of t))) (j .0), rw (given-append gs bs es) (j .1));
     }
-stepped ms s t n i f r (ends-with es) h =
-    λ k. placed-append ms (block-ends n (mark-of t)) es (placed-ends ms n (mark-of t)) (h (ends-ready n (mark-of t) (r k)))
+stepped gs s t n i f r (ends-with es) h =
+    λ k. placed-append gs (block-ends n (mark-of t)) es (only-placed gs _ (only-ends n (mark-of t))) (h (ends-ready n (mark-of t) (r k)))
 
-pub step-news : (ms : List Mark) (limits : Limits) (s : State) → All News (Stepped ms s) (step limits s)
+pub step-news : (gs : List Given) (limits : Limits) (s : State) → All News (Stepped gs s) (step limits s)
 unfolding step
-step-news ms limits s =
-    all-bind _ (to-next-token-ready ms s)
-    (λ t h. all-bind _ (next-news (starts ms (block-ends (unrolled t .ended) (mark-of t))) limits (counting (unrolled t .ended) (with-indents (unrolled t .indents) t)))
-    (λ w k. holds (stepped ms s t (unrolled t .ended) (unrolled t .indents) (h .0) (h .1) w k)))
+step-news gs limits s =
+    all-bind _ (to-next-token-ready gs s)
+    (λ t h. all-bind _ (next-news (given gs (block-ends (unrolled t .ended) (mark-of t))) limits (counting (unrolled t .ended) (with-indents (unrolled t .indents) t)))
+    (λ w k. holds (stepped gs s t (unrolled t .ended) (unrolled t .indents) (h .0) (h .1) w k)))
 
 -- a run
 
@@ -154,25 +158,25 @@ pub data Reaches (limits : Limits) (s : State) : List Event → State → Type 0
   here : Reaches limits s [] s
   then-step : {es fs : List Event} {t u : State} → Reaches limits s es t → step limits t ≡ got (goes-on fs u) → Reaches limits s (es ++ fs) u
 
-pub record Reached (ms : List Mark) (s : State) (es : List Event) (t : State) : Type 0 where
+pub record Reached (gs : List Given) (s : State) (es : List Event) (t : State) : Type 0 where
   pub onward : Fits (s .place) (t .place)
-  pub placed : Placed ms es
-  pub sound : Sound (starts ms es) t
+  pub placed : Placed gs es
+  pub sound : Sound (given gs es) t
 
 -- in every state that a run reaches the candidates are known or late, the place is further on in the text, and what was said is placed
-pub reached : {limits : Limits} {s : State} {es : List Event} {t : State} (ms : List Mark) → Sound ms s → Reaches limits s es t → Reached ms s es t
-unfolding starts Placed
-reached ms h here = record { onward = fits-refl _; placed = tt; sound = h }
-reached {limits} ms h (then-step {es = es} {fs = fs} {t = t} r e) =
-    let k = reached ms h r in
-    let n = all-got (step-news (starts ms es) limits t) e in
+pub reached : {limits : Limits} {s : State} {es : List Event} {t : State} (gs : List Given) → Sound gs s → Reaches limits s es t → Reached gs s es t
+unfolding given Placed
+reached gs h here = record { onward = fits-refl _; placed = tt; sound = h }
+reached {limits} gs h (then-step {es = es} {fs = fs} {t = t} r e) =
+    let k = reached gs h r in
+    let n = all-got (step-news (given gs es) limits t) e in
     let j = n .sound (k .sound) in
-    record { onward = fits-trans (k .onward) (n .onward); placed = placed-append ms es fs (k .placed) (j .0); sound = rw (starts-append ms es fs) (j .1) }
+    record { onward = fits-trans (k .onward) (n .onward); placed = placed-append gs es fs (k .placed) (j .0); sound = rw (given-append gs es fs) (j .1) }
 
 -- in a text from its first character on, a place has as many characters behind it as its index says
-pub reached-place : {limits : Limits} {es : List Event} {t : State} (cs : List ℕ) → Sound (origin ∷ []) (begin cs) → Reaches limits (begin cs) es t
+pub reached-place : {limits : Limits} {es : List Event} {t : State} (cs : List ℕ) → Sound (fresh origin ∷ []) (begin cs) → Reaches limits (begin cs) es t
     → (t .place .rest ≡ drop (t .place .mark .index) cs) × (t .place .mark .index ≤ length cs)
 reached-place {t} cs h r =
-    let f = reached (origin ∷ []) h r .onward in
+    let f = reached (fresh origin ∷ []) h r .onward in
     let e : t .place .mark .index ≡ f .taken = f .index-is ∙ zero-add _ in
     (rw e (f .rest-is), rw e (f .within))

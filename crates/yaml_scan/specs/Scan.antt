@@ -7,10 +7,10 @@ use lib.ListN.{length, replicate}
 use Rattle.yaml_text.specs.declared.Mark.{Mark}
 use Rattle.yaml_text.specs.Pick.{pick}
 use Rattle.yaml_text.specs.Mark.{edge-of, here, origin}
-use Rattle.yaml_lexeme.specs.Token.{StreamStart, Token, empty-token, texts}
-use Rattle.yaml_lexeme.specs.Held.{records}
 use Rattle.yaml_text.specs.Refusal.{Read, _>>=_, got, refused}
 use Rattle.yaml_text.specs.Decode.{decode}
+use Rattle.yaml_lexeme.specs.Token.{StreamStart, Token, empty-token, texts}
+use Rattle.yaml_lexeme.specs.Held.{records}
 use Rattle.yaml_lexeme.specs.declared.Before.the-variants.{AfterText, Leading}
 use Rattle.yaml_lexeme.specs.Gap.{skip-gap}
 use Rattle.yaml_scan.specs.Indent.{Unrolled, indents-of}

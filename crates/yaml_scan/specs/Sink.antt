@@ -2,13 +2,19 @@
 use Prim.Native.Nat.{_+_, _<_, suc, zero, ℕ}
 use mathlib.Core.List.{List, [], _++_, _∷_}
 use mathlib.Core.Path.{_∙_, _≡_, ap, refl, sym}
+use mathlib.Core.Bool.{false}
 use native.Mathlib.Omega.{arith}
+use native.Mathlib.Nat.{zero-add}
+use lib.ListN.{length, length-append}
 use borrow.Author.Tests.{eq-eqb, ne-eqb}
 use Rattle.yaml_text.specs.declared.Mark.{Mark}
+use Rattle.yaml_text.specs.Test.{true-false}
 use Rattle.yaml_lexeme.specs.Token.{Token}
+use Rattle.yaml_scan.specs.declared.Limits.{Limits}
 use Rattle.yaml_scan.specs.State.{Event, put, put-before}
-use Rattle.yaml_scan.specs.Scan.{noted, settled}
-use Rattle.yaml_scan.specs.Candidates.{starts}
+use Rattle.yaml_scan.specs.Scan.{noted, outcome, scanned, settled}
+use Rattle.yaml_scan.specs.Candidates.{Free, Given, Placed, fresh, given, note-at}
+use Rattle.yaml_scan.specs.Budget.{outcome-placed}
 
 pub record Slot : Type 0 where
   pub token : Token
@@ -78,25 +84,80 @@ pub sunk-settled : (es : List Event) → flat (sunk [] es) ≡ settled 0 es
 unfolding ends-as
 sunk-settled es = all-noted [] es
 
--- the slots hold the tokens that were given: so where an event is placed (Candidates), its note meets a slot, whose token starts where the noted tokens stand
+-- the slots hold the tokens that were given, and each is noted at most once (Candidates): so the tokens are as many as the events say
 
-unfoldable pub marks : List Slot → List Mark
-marks [] = []
-marks (x ∷ xs) = x .token .start ∷ marks xs
+-- the slots of the tokens gs: each token starts where it says, and nothing is noted where none was put in
+abbrev pub Holds : List Given → List Slot → Type 0
+Holds [] [] = Unit {0}
+Holds [] (x ∷ xs) = ⊥
+Holds (g ∷ gs) [] = ⊥
+Holds (g ∷ gs) (x ∷ xs) = (x .token .start ≡ g .start) × (g .noted ≡ false → x .before ≡ []) × Holds gs xs
 
-note-marks : (n : ℕ) (ts : List Token) (xs : List Slot) → marks (note n ts xs) ≡ marks xs
-unfolding note marks
-note-marks n ts [] = refl
-note-marks zero ts (x ∷ xs) = refl
-note-marks (suc n) ts (x ∷ xs) = ap (λ (ms : List Mark). x .token .start ∷ ms) (note-marks n ts xs)
+holds-more : (gs : List Given) (xs : List Slot) (t : Token) → Holds gs xs → Holds (gs ++ (fresh (t .start) ∷ [])) (xs ++ (slot t [] ∷ []))
+holds-more [] [] t h = (refl, λ _. refl, tt)
+holds-more [] (x ∷ xs) t h = absurd h
+holds-more (g ∷ gs) [] t h = absurd h
+holds-more (g ∷ gs) (x ∷ xs) t h = (h .0, h .1, holds-more gs xs t (h .2))
 
-marks-more : (xs : List Slot) (t : Token) → marks (xs ++ (slot t [] ∷ [])) ≡ marks xs ++ (t .start ∷ [])
-unfolding marks
-marks-more [] t = refl
-marks-more (x ∷ xs) t = ap (λ (ms : List Mark). x .token .start ∷ ms) (marks-more xs t)
+holds-noted : (gs : List Given) (xs : List Slot) (n : ℕ) (ts : List Token) → Holds gs xs → Holds (note-at n gs) (note n ts xs)
+unfolding note
+holds-noted [] [] n ts h = tt
+holds-noted [] (x ∷ xs) n ts h = absurd h
+holds-noted (g ∷ gs) [] n ts h = absurd h
+holds-noted (g ∷ gs) (x ∷ xs) zero ts h = (h .0, λ e. true-false e, h .2)
+holds-noted (g ∷ gs) (x ∷ xs) (suc n) ts h = (h .0, h .1, holds-noted gs xs n ts (h .2))
 
-pub sunk-marks : (xs : List Slot) (es : List Event) → marks (sunk xs es) ≡ starts (marks xs) es
-unfolding sunk starts
-sunk-marks xs [] = refl
-sunk-marks xs (put t ∷ es) = sunk-marks (xs ++ (slot t [] ∷ [])) es ∙ ap (λ (ms : List Mark). starts ms es) (marks-more xs t)
-sunk-marks xs (put-before n ts ∷ es) = sunk-marks (note n ts xs) es ∙ ap (λ (ms : List Mark). starts ms es) (note-marks n ts xs)
+pub sunk-holds : (gs : List Given) (xs : List Slot) (es : List Event) → Holds gs xs → Holds (given gs es) (sunk xs es)
+unfolding sunk given
+sunk-holds gs xs [] h = h
+sunk-holds gs xs (put t ∷ es) h = sunk-holds (gs ++ (fresh (t .start) ∷ [])) (xs ++ (slot t [] ∷ [])) es (holds-more gs xs t h)
+sunk-holds gs xs (put-before n ts ∷ es) h = sunk-holds (note-at n gs) (note n ts xs) es (holds-noted gs xs n ts h)
+
+-- how many tokens the events say
+unfoldable pub total : List Event → ℕ
+total [] = 0
+total (put t ∷ es) = suc (total es)
+total (put-before n ts ∷ es) = length ts + total es
+
+flat-more : (xs : List Slot) (t : Token) → length (flat (xs ++ (slot t [] ∷ []))) ≡ suc (length (flat xs))
+unfolding flat
+flat-more [] t = refl
+flat-more (x ∷ xs) t =
+    let e = length-append (x .before) (x .token ∷ flat xs) in
+    let f = length-append (x .before) (x .token ∷ flat (xs ++ (slot t [] ∷ []))) in
+    let g = flat-more xs t in
+    omega arith
+
+flat-noted : (gs : List Given) (xs : List Slot) (n : ℕ) (m : Mark) (ts : List Token) → Holds gs xs → Free gs n m → length (flat (note n ts xs)) ≡ length (flat xs) + length ts
+unfolding flat note
+flat-noted [] [] n m ts h f = let k = f .0 in absurd (omega arith)
+flat-noted [] (x ∷ xs) n m ts h f = absurd h
+flat-noted (g ∷ gs) [] n m ts h f = absurd h
+flat-noted (g ∷ gs) (x ∷ xs) zero m ts h f =
+    let e = length-append ts (x .token ∷ flat xs) in
+    rw (h .1 (ap (λ (g' : Given). g' .noted) (f .1))) (omega arith)
+flat-noted (g ∷ gs) (x ∷ xs) (suc n) m ts h f =
+    let e = length-append (x .before) (x .token ∷ flat xs) in
+    let i = length-append (x .before) (x .token ∷ flat (note n ts xs)) in
+    let k = flat-noted gs xs n m ts (h .2) (omega (arith, f .0), f .1) in
+    omega arith
+
+sunk-total : (gs : List Given) (xs : List Slot) (es : List Event) → Holds gs xs → Placed gs es → length (flat (sunk xs es)) ≡ length (flat xs) + total es
+unfolding sunk total Placed
+sunk-total gs xs [] h p = omega arith
+sunk-total gs xs (put t ∷ es) h p =
+    let e = sunk-total (gs ++ (fresh (t .start) ∷ [])) (xs ++ (slot t [] ∷ [])) es (holds-more gs xs t h) p in
+    let f = flat-more xs t in
+    omega arith
+sunk-total gs xs (put-before n ts ∷ es) h p =
+    let e = sunk-total (note-at n gs) (note n ts xs) es (holds-noted gs xs n ts h) (p .3) in
+    let f = flat-noted gs xs n (p .0) ts h (p .1) in
+    omega arith
+
+pub settled-total : (es : List Event) → Placed [] es → length (settled 0 es) ≡ total es
+unfolding flat
+settled-total es p = ap (λ (ts : List Token). length ts) (sym (sunk-settled es)) ∙ sunk-total [] [] es tt p ∙ zero-add _
+
+-- T, as a sink counts it
+pub outcome-total : (limits : Limits) (bytes : List ℕ) (es : List Event) → outcome limits bytes ≡ scanned es → length (settled 0 es) ≡ total es
+outcome-total limits bytes es e = settled-total es (rw e at (outcome-placed limits bytes))

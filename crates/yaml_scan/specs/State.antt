@@ -7,8 +7,8 @@ use lib.ListN.{replicate}
 use Rattle.yaml_text.specs.declared.Mark.{Mark}
 use Rattle.yaml_text.specs.Pick.{pick}
 use Rattle.yaml_text.specs.Mark.{Place, edge-of}
-use Rattle.yaml_lexeme.specs.Token.{BlockEnd, Kind, Lexeme, Token, empty-token}
 use Rattle.yaml_text.specs.Refusal.{Read, _>>=_, got}
+use Rattle.yaml_lexeme.specs.Token.{BlockEnd, Kind, Lexeme, Token, empty-token}
 use Rattle.yaml_scan.specs.Indent.{Indents, Unrolled, top-ends, unroll}
 use Rattle.yaml_scan.specs.declared.Candidate.{Candidate}
 use Rattle.yaml_scan.specs.declared.Level.{Level}

@@ -7,11 +7,11 @@ use Rattle.yaml_text.specs.declared.Mark.{Mark}
 use Rattle.yaml_text.specs.Pick.{pick}
 use Rattle.yaml_text.specs.Class.{isBlankOrBreakz, isFlow, peek}
 use Rattle.yaml_text.specs.Mark.{Place, along, edge-of, skip-by}
-use Rattle.yaml_lexeme.specs.Token.{BlockEntry, BlockMappingStart, BlockSequenceStart, FlowMappingStart, Key, Kind, Lexeme, Value, empty-token, lexeme}
 use Rattle.yaml_text.specs.Refusal.{Read, _>>=_, need}
+use Rattle.yaml_lexeme.specs.Token.{BlockEntry, BlockMappingStart, BlockSequenceStart, FlowMappingStart, Key, Kind, Lexeme, Value, empty-token, lexeme}
 use Rattle.yaml_scan.specs.Indent.{Indents, Rolled, roll-at}
 use Rattle.yaml_scan.specs.declared.Candidate.{Candidate}
-use Rattle.yaml_scan.specs.declared.Candidate.the-variants.{Possible, Absent}
+use Rattle.yaml_scan.specs.declared.Candidate.the-variants.{Absent, Possible}
 use Rattle.yaml_scan.specs.Keys.{set-key, top-key}
 use Rattle.yaml_scan.specs.declared.Level.{Level}
 use Rattle.yaml_scan.specs.declared.Limits.{Limits}

@@ -8,7 +8,7 @@ use lib.Dec.{eqb}
 use Rattle.yaml_text.specs.declared.Mark.{Mark}
 use Rattle.yaml_text.specs.Char.{carriage-return, line-feed}
 use Rattle.yaml_text.specs.Class.{isBreak}
-use Rattle.yaml_text.specs.Mark.{along, before-run, here, new-line, nothing-at, over, word, halfBreak}
+use Rattle.yaml_text.specs.Mark.{along, before-run, halfBreak, here, new-line, nothing-at, over, word}
 use Rattle.yaml_text.specs.Test.{true-false}
 
 half-no : (c d : ℕ) → isBreak c ≡ false → halfBreak c d ≡ false
