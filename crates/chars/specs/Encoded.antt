@@ -18,15 +18,15 @@ len-if : (p : Bool) (v m c n : ℕ) → charIf p v m ≡ Char c n → n ≡ m
 len-if true v m c n e = cc
 len-if false v m c n e = no-char e
 
-two-len : (a b v n : ℕ) → two a b ≡ Char v n → n ≡ 2
+pub two-len : (a b v n : ℕ) → two a b ≡ Char v n → n ≡ 2
 unfolding two
 two-len a b v n e = let w = a % 32 * 64 + b % 64 in len-if (isTail b && isScalar 0x80 w) w 2 v n e
 
-three-len : (a b c v n : ℕ) → three a b c ≡ Char v n → n ≡ 3
+pub three-len : (a b c v n : ℕ) → three a b c ≡ Char v n → n ≡ 3
 unfolding three
 three-len a b c v n e = let w = a % 16 * 4096 + b % 64 * 64 + c % 64 in len-if (isTail b && (isTail c && isScalar 0x800 w)) w 3 v n e
 
-four-len : (a b c d v n : ℕ) → four a b c d ≡ Char v n → n ≡ 4
+pub four-len : (a b c d v n : ℕ) → four a b c d ≡ Char v n → n ≡ 4
 unfolding four
 four-len a b c d v n e =
     let w = a % 8 * 262144 + b % 64 * 4096 + c % 64 * 64 + d % 64 in

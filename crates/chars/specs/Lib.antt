@@ -6,3 +6,4 @@ pub mod Places
 pub mod Lines
 pub mod Encoded
 pub mod Counted
+pub mod Parts

@@ -1,0 +1,141 @@
+// K7: plain scalars.
+ghost use mathlib.Core.Bool.{false};
+ghost use mathlib.Core.Path.{_≡_};
+ghost use Prim.Native.Nat.{_+_, _-_, _<_, _^_, _≤_};
+ghost use lib.ListN.{drop, getD, length};
+ghost use Rattle.yaml_text.specs.Class.{isZ, peek};
+ghost use Rattle.yaml_text.specs.Mark.{along-by};
+ghost use Rattle.yaml_text.specs.Refusal.{got};
+ghost use Rattle.yaml_text.specs.Utf8.{chars};
+ghost use Rattle.yaml_lexeme.specs.Plain.{plain-stops, plain-text, scan-plain-scalar};
+ghost use Rattle.chars.specs.Parts.{Spans};
+ghost use Rattle.chars.specs.View.{Small, Stands, view};
+ghost use Rattle.reading.specs.Reading.{Given, Lexes, first-at};
+ghost use Rattle.plain.specs.Text.{ends-at-colon, ordinary, text-length};
+use chars::class::is_blank;
+use chars::class::is_blank_or_breakz;
+use chars::class::is_bom;
+use chars::class::is_breakz;
+use chars::class::is_flow;
+use chars::mark::Place;
+use reading::Reading;
+use reading::got;
+use reading::text_at;
+use utf8::byte;
+use utf8::char_at;
+use utf8::lead_len;
+use utf8::look;
+use yaml_lexeme::Kind;
+use yaml_lexeme::Style;
+use yaml_text::Decoded;
+use yaml_text::Mark;
+
+// Whether a ':' ends a plain scalar before the character at a place.
+fn ends_at_colon(text: &[u8], at: usize, flow: bool) -> bool
+    ensures { λ r. ⌜ r ≡ ends-at-colon flow (peek (chars (drop at (now (text .entry)))) 0) ⌝ }
+{
+    let d = look(text, at);
+    is_blank_or_breakz(d) | flow & is_flow(d)
+}
+
+// Whether a plain scalar ends at the byte b below 128 that stands at a place. blank: after a blank.
+fn stops(text: &[u8], at: usize, flow: bool, blank: bool, b: u8) -> bool
+    requires { ⌜ (at ≤ length (now text)) × (b < 128) ⌝ }
+    ensures { λ r. ⌜ r ≡ plain-stops flow blank b (peek (chars (drop (at + 1) (now (text .entry)))) 0) ⌝ }
+{
+    if is_flow(b as u32) {
+        return flow;
+    }
+    if b == 58 {
+        return ends_at_colon(text, at + 1, flow);
+    }
+    if b == 35 {
+        return blank;
+    }
+    is_breakz(b as u32)
+}
+
+// How many bytes the character takes that begins with the byte b at a place; 0: the text ends before it.
+fn text_length(text: &[u8], at: usize, flow: bool, blank: bool, b: u8) -> usize
+    requires { ⌜ (at ≤ length (now text)) × (b ≡ getD (now text) at 0) ⌝ }
+    ensures { λ r. ⌜ r ≡ text-length flow blank (now (text .entry)) at ⌝ }
+{
+    if b < 128 {
+        if stops(text, at, flow, blank, b) {
+            return 0;
+        }
+        return 1;
+    }
+    let d = char_at(text, at);
+    let Decoded::Char { code, len } = d else {
+        return 0;
+    };
+    if is_bom(code) {
+        return 0;
+    }
+    len
+}
+
+// Most characters of a text by far: neither a blank nor one at which it could end.
+fn is_ordinary(b: u8) -> bool
+    ensures { λ r. ⌜ r ≡ ordinary b ⌝ }
+{
+    (45 <= b) & (b <= 57) | (59 <= b) & (b <= 90) | (94 <= b) & (b <= 122)
+}
+
+// The place `end`, behind characters that have so many bytes more than one each.
+fn behind(start: Place, end: usize, extra: usize) -> Place
+    requires { ⌜ Small start × (start .at + extra ≤ end) × (end ≤ start .at + 2 ^ 20) ⌝ }
+    ensures { λ r. ⌜ r ≡ record { at = end; mark = along-by (end - start .at - extra) (start .mark) } ⌝ }
+{
+    let n = end - start.at - extra;
+    let p = start.skip_n_non_blank(n as u32);
+    let m = p.mark;
+    Place { at: end, mark: m }
+}
+
+// The place behind the last character of the text that goes on at `start`, which no blank stands before.
+// The loop counts bytes: one line's marks follow from them.
+fn text_end(text: &[u8], start: Place, flow: bool) -> Place
+    requires { ⌜ Stands (now text) start ⌝ }
+    ensures { λ r. ⌜ Spans (now (text .entry)) start r (plain-text flow false (start .mark) (chars (drop (start .at) (now (text .entry))))) ⌝ }
+{
+    let mut at = start.at;
+    let mut end = at;
+    let mut extra = 0;
+    loop {
+        let b = byte(text, at);
+        if is_ordinary(b) {
+            at += 1;
+            end = at;
+        } else if is_blank(b as u32) {
+            at += 1;
+        } else {
+            let n = text_length(text, at, flow, end < at, b);
+            if n == 0 {
+                return behind(start, end, extra);
+            }
+            at += n;
+            end = at;
+            extra += n - 1;
+        }
+    }
+}
+
+// From its first character, whatever that is.
+pub fn scan_plain_scalar(text: &[u8], start: Mark, flow: bool, used: u32, out: &mut [u8]) -> Reading
+    requires { ⌜ Given (now text) start used × (isZ (peek (chars (now text)) 0) ≡ false) ⌝ }
+    ensures { λ r. ⌜ Lexes (now (text .entry)) (now (out .entry)) (now (out .exit)) used r (got (scan-plain-scalar flow (view (now (text .entry)) (first-at start)))) ⌝ }
+{
+    let first = Place { at: 0, mark: start };
+    let len = lead_len(byte(text, 0)) as usize;
+    let e = text_end(text, first.skip_non_blank(len), flow);
+    let n = e.at;
+    rooms::copy(out, 0, &text[..n]);
+    got(
+        Kind::Scalar(Style::Plain, text_at(used, n)),
+        start,
+        e.mark,
+        e,
+    )
+}
