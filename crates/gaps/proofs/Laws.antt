@@ -5,12 +5,12 @@ use mathlib.Core.List.{List, [], _∷_}
 use mathlib.Core.Path.{_∙_, _≡_, ap, refl, sym}
 use native.Mathlib.Omega.{arith}
 use lib.Dec.{T, eqb}
-use lib.ListN.{drop, getD}
+use lib.ListN.{drop, getD, take}
 use borrow.Author.Tests.{eqb-true}
 use Rattle.yaml_text.specs.declared.Mark.{Mark}
 use Rattle.yaml_text.specs.Char.{'#', carriage-return, line-feed, space, tab}
 use Rattle.yaml_text.specs.Class.{isBlank, isBreak, peek}
-use Rattle.yaml_text.specs.Mark.{along, along-by, here, look, new-line, over}
+use Rattle.yaml_text.specs.Mark.{Run, along, along-by, before-run, here, look, new-line, nothing-at, over, word}
 use Rattle.yaml_text.specs.Mark as definition
 use Rattle.yaml_text.specs.MarkLaws.{over-along, over-break, over-crlf}
 use Rattle.yaml_text.specs.Refusal.{got, refused}
@@ -30,8 +30,9 @@ use Rattle.chars.specs.Reach.{reach-within}
 use Rattle.chars.specs.View.{Moves, Stands, past, view}
 use Rattle.gaps.specs.Breaks.{BreakAt, Breaks, none, one, two}
 use Rattle.gaps.specs.Gap.{Open, Other, gap-from}
-use Rattle.gaps.specs.Line.{Lined, lined, low-run}
-use Rattle.gaps.specs.Walk.{Walks, moves-some, walks-along}
+use Rattle.gaps.specs.Line.{Lined, line, line-more, line-stop, lined, low-run}
+use Rattle.gaps.specs.Walk.{moves-some}
+use Rattle.gaps.specs.Span.{Spanning, spans-along}
 
 -- blanks
 
@@ -45,14 +46,15 @@ blank-done m (c ∷ cs) e = blanks-stop m c cs e
 
 -- the line's end
 
-pub line-turn : {s : List ℕ} {at c n : ℕ} (m : Mark) → CharAt s at c n → isBreak c ≡ false → to-break m (chars (drop at s)) ≡ to-break (along m) (chars (drop (at + n) s))
-line-turn {s} {at} {c} {n} m x e = rw (x .next) (to-break-more m c (chars (drop (at + n) s)) e)
+pub line-turn : {s : List ℕ} {at c n : ℕ} (m : Mark) → CharAt s at c n → isBreak c ≡ false
+    → line m (chars (drop at s)) ≡ before-run (take 1 (chars (drop at s))) (line (along m) (chars (drop (at + n) s)))
+line-turn {s} {at} {c} {n} m x e = rw (x .next) (line-more m c (chars (drop (at + n) s)) e)
 
-pub line-done : {s : List ℕ} {at c n : ℕ} (m : Mark) → CharAt s at c n → isBreak c ≡ true → to-break m (chars (drop at s)) ≡ here m (chars (drop at s))
-line-done {s} {at} {c} {n} m x e = rw (x .next) (to-break-stop m c (chars (drop (at + n) s)) e)
+pub line-done : {s : List ℕ} {at c n : ℕ} (m : Mark) → CharAt s at c n → isBreak c ≡ true → line m (chars (drop at s)) ≡ nothing-at (here m (chars (drop at s)))
+line-done {s} {at} {c} {n} m x e = rw (x .next) (line-stop m c (chars (drop (at + n) s)) e)
 
-pub end-done : (m : Mark) (cs : List ℕ) → cs ≡ [] → to-break m cs ≡ here m cs
-unfolding to-break
+pub end-done : (m : Mark) (cs : List ℕ) → cs ≡ [] → line m cs ≡ nothing-at (here m cs)
+unfolding word
 end-done m cs e = rw e
 
 -- a character that is no break is passed over
@@ -67,9 +69,9 @@ module _ {text : List ℕ} {p : Place} {n : ℕ} (e : n ≡ low-run (drop (p .at
   pub low-few : Stands text p → n ≤ 2 ^ 20
   low-few h = let w = reach-within (lined text (p .at) .reach) (h .within) in omega (arith, w, h)
 
-  pub low-walks : {start q : Place} {x : definition.Place} → Walks text start p x (to-break (p .mark) (chars (drop (p .at) text)))
-      → q ≡ past p n (along-by n (p .mark)) → Walks text start q x (to-break (q .mark) (chars (drop (q .at) text)))
-  low-walks w f = let l : Lined text (p .at) n = rw e (lined text (p .at)) in rw f (walks-along w n n (l .reach) (l .turns (p .mark)))
+  pub low-spans : {start q : Place} {x : Run} → Spanning text start p x (line (p .mark) (chars (drop (p .at) text)))
+      → q ≡ past p n (along-by n (p .mark)) → Spanning text start q x (line (q .mark) (chars (drop (q .at) text)))
+  low-spans w f = let l : Lined text (p .at) n = rw e (lined text (p .at)) in rw f (spans-along w n n (l .reach) (l .turns (p .mark)))
 
 -- the comment behind blanks
 

@@ -5,6 +5,7 @@ use mathlib.Core.List.{List}
 use mathlib.Core.Path.{_∙_, _≡_, ap, sym}
 use native.Mathlib.Omega.{arith}
 use Rattle.yaml_text.specs.declared.Mark.{Mark}
+use Rattle.yaml_text.specs.declared.Refusal.{Refusal}
 use Rattle.yaml_text.specs.Mark as definition
 use Rattle.yaml_text.specs.Refusal.{Read, got, refused}
 use Rattle.yaml_lexeme.specs.Gap as gap
@@ -28,6 +29,17 @@ module _ {text : List ℕ} {p : Place} {r : Reached} {d : Read definition.Place}
   pub reaches-refused : {n : ℕ} {m : Mark} → r ≡ reached.Refused (record { number = n; mark = m }) → d ≡ refused n m → Reaches text p r d
   unfolding seen-place
   reaches-refused f e = rw f (record { same = sym e; onward = tt })
+
+-- the same taken apart
+pub reached-to : {text : List ℕ} {p q : Place} {r : Reached} {d : Read definition.Place} → Reaches text p r d → r ≡ reached.To q
+    → (d ≡ got (view text q)) × Stands text q × (p .at ≤ q .at)
+unfolding seen-place
+reached-to w e = (sym (rw e at (w .same)), (rw e at (w .onward)) .0, (rw e at (w .onward)) .1)
+
+pub reached-refused : {text : List ℕ} {p : Place} {r : Reached} {d : Read definition.Place} {f : Refusal} → Reaches text p r d → r ≡ reached.Refused f
+    → d ≡ refused (f .number) (f .mark)
+unfolding seen-place
+reached-refused w e = sym (rw e at (w .same))
 
 module _ {text : List ℕ} {p : Place} {r : Gapped} {d : Read gap.Gap} where
   -- a gap's end

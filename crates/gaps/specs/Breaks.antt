@@ -44,7 +44,7 @@ breaks (c ∷ cs) =
     (λ h. by-test (isBreak c) (λ e. rw (h, e) (one e h)) (λ e. rw (h, e) (none e)))
 
 -- a break takes a character at least
-breaks-some : {cs : List ℕ} {n : ℕ} → Breaks cs n → isBreak (peek cs 0) ≡ true → 1 ≤ n
+pub breaks-some : {cs : List ℕ} {n : ℕ} → Breaks cs n → isBreak (peek cs 0) ≡ true → 1 ≤ n
 breaks-some two h = omega arith
 breaks-some (one e f) h = omega arith
 breaks-some (none e) h = true-false (sym h ∙ e)

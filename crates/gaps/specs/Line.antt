@@ -6,19 +6,44 @@ use mathlib.Core.Path.{_∙_, _≡_, ap, refl, sym}
 use native.Mathlib.Numerals.{add-one}
 use native.Mathlib.Omega.{arith}
 use lib.Dec.{ltb}
-use lib.ListN.{drop, drop-of-length-le, getD, length, length-drop}
+use lib.ListN.{drop, drop-of-length-le, getD, length, length-drop, take}
 use lib.Seq.{drop-cons, drop-drop, getD-drop}
 use borrow.Author.Tests.{ltb-true, not-true}
 use Rattle.yaml_text.specs.declared.Mark.{Mark}
 use Rattle.yaml_text.specs.Class.{isBreak}
-use Rattle.yaml_text.specs.Mark.{along, along-by}
+use Rattle.yaml_text.specs.Mark.{Run, along, along-by, before-run, here, nothing-at, word}
+use Rattle.yaml_text.specs.MarkLaws.{word-more, word-stop}
 use Rattle.yaml_text.specs.Test.{by-test}
 use Rattle.yaml_text.specs.Utf8.{chars}
 use Rattle.yaml_lexeme.specs.Gap.{to-break}
-use Rattle.yaml_lexeme.specs.Turns.{to-break-more}
+use Rattle.yaml_lexeme.specs.Turns.{to-break-more, to-break-stop}
 use Rattle.chars.specs.Bytes.{CharAt, byte-char}
 use Rattle.chars.specs.Reach.{Reach, more, none}
 use Rattle.gaps.specs.Breaks.{both}
+
+-- a line: the characters up to the break
+unfoldable pub in-line : ℕ → Bool
+in-line c = not (isBreak c)
+
+abbrev pub line : Mark → List ℕ → Run
+line m cs = word in-line m cs
+
+pub line-more : (m : Mark) (c : ℕ) (cs : List ℕ) → isBreak c ≡ false → line m (c ∷ cs) ≡ before-run (c ∷ []) (line (along m) cs)
+unfolding in-line
+line-more m c cs e = word-more in-line m c cs (rw e)
+
+pub line-stop : (m : Mark) (c : ℕ) (cs : List ℕ) → isBreak c ≡ true → line m (c ∷ cs) ≡ nothing-at (here m (c ∷ cs))
+unfolding in-line
+line-stop m c cs e = word-stop in-line m c cs (rw e)
+
+-- behind it stands the break, or nothing
+pub line-place : (m : Mark) (cs : List ℕ) → line m cs .place ≡ to-break m cs
+unfolding word to-break
+line-place m [] = refl
+line-place m (c ∷ cs) =
+    by-test (isBreak c)
+    (λ e. rw (line-stop m c cs e, to-break-stop m c cs e))
+    (λ e. rw (line-more m c cs e, to-break-more m c cs e) (line-place (along m) cs))
 
 -- a byte that is a character, and no break
 unfoldable pub is-low : ℕ → Bool
@@ -53,10 +78,10 @@ module _ (s : List ℕ) (i : ℕ) where
   unfolding low-run
   low-past h = rw (drop-of-length-le s h)
 
--- k characters on to the line's end, each of one byte
+-- k characters of the line, each of one byte
 pub record Lined (s : List ℕ) (at k : ℕ) : Type 0 where
   pub reach : Reach s at k (at + k)
-  pub turns : (m : Mark) → to-break m (chars (drop at s)) ≡ to-break (along-by k m) (chars (drop (at + k) s))
+  pub turns : (m : Mark) → line m (chars (drop at s)) ≡ before-run (take k (chars (drop at s))) (line (along-by k m) (chars (drop (at + k) s)))
 
 lined-none : (s : List ℕ) (at : ℕ) → Lined s at 0
 lined-none s at =
@@ -74,7 +99,7 @@ lined-more {s} {at} {b} {k} x f l =
       turns = λ m.
           let i : m .index + 1 + k ≡ m .index + suc k = omega arith in
           let c : m .col + 1 + k ≡ m .col + suc k = omega arith in
-          rw (x .next) (to-break-more m b (chars (drop (at + 1) s)) f ∙ rw (e, i, c) at (l .turns (along m)));
+          rw (x .next) (line-more m b (chars (drop (at + 1) s)) f ∙ ap (before-run (b ∷ [])) (rw (e, i, c) at (l .turns (along m))));
     }
 
 low-no-break : (b : ℕ) → is-low b ≡ true → isBreak b ≡ false

@@ -11,7 +11,8 @@ ghost use Rattle.chars.specs.View.{Moves, Stands, view};
 ghost use Rattle.reading.specs.Reading.{Reaches};
 ghost use Rattle.gaps.specs.declared.Gapped.the-variants.{Got, Refused};
 ghost use Rattle.gaps.specs.Gap.{Open, Other, Skips, gap-from};
-ghost use Rattle.gaps.specs.Line.{is-low, low-run};
+ghost use Rattle.gaps.specs.Line.{is-low, line, low-run};
+ghost use Rattle.gaps.specs.Span.{Spans};
 use chars::class::is_blank;
 use chars::class::is_break;
 use chars::mark::Place;
@@ -66,10 +67,10 @@ fn is_low(b: u8) -> bool
     (b < 128) & !is_break(b as u32)
 }
 
-// To the line's end: over the characters of one byte in a row, and over one of several bytes.
-pub fn to_break(text: &[u8], start: Place) -> Place
+// To the line's end: over the characters of one byte in a row, and over one of several bytes. The bytes passed over are the line's text.
+pub fn run_to_break(text: &[u8], start: Place) -> Place
     requires { ⌜ Stands (now text) start ⌝ }
-    ensures { λ r. ⌜ Moves (now (text .entry)) start r (to-break (start .mark) (chars (drop (start .at) (now (text .entry))))) ⌝ }
+    ensures { λ r. ⌜ Spans (now (text .entry)) start r (line (start .mark) (chars (drop (start .at) (now (text .entry))))) ⌝ }
 {
     let mut p = start;
     loop {
@@ -92,6 +93,14 @@ pub fn to_break(text: &[u8], start: Place) -> Place
             }
         }
     }
+}
+
+// To the line's end.
+pub fn to_break(text: &[u8], start: Place) -> Place
+    requires { ⌜ Stands (now text) start ⌝ }
+    ensures { λ r. ⌜ Moves (now (text .entry)) start r (to-break (start .mark) (chars (drop (start .at) (now (text .entry))))) ⌝ }
+{
+    run_to_break(text, start)
 }
 
 // The blanks and comment read after a directive, a block header, a quoted scalar, a bracket, ',' and `...`.

@@ -1,0 +1,57 @@
+-- Writing a run's text: what is left to write gives the whole.
+use Prim.Native.Nat.{_+_, suc, zero, ℕ}
+use mathlib.Core.List.{List, _++_}
+use mathlib.Core.Path.{_∙_, _≡_, refl, sym}
+use native.Mathlib.Omega.{arith}
+use lib.ListN.{length, length-append, length-replicate, replicate}
+use lib.Seq.{sets}
+use Rattle.yaml_text.specs.Mark.{Run, before-run}
+use Rattle.yaml_text.specs.Utf8.{bytesOf, encode}
+use Rattle.rooms.specs.Room.{sets-join}
+use Rattle.gaps.specs.Span.{encode-append}
+
+-- the text t was stored from n on, and the next byte goes to k
+pub record Puts (before : List ℕ) (n : ℕ) (after : List ℕ) (k : ℕ) (t : List ℕ) : Type 0 where
+  pub bytes : after ≡ sets before n (encode t)
+  pub next : k ≡ n + length (encode t)
+
+pub puts-then : {a b c : List ℕ} {i j k : ℕ} {s t : List ℕ} → Puts a i b j s → Puts b j c k t → Puts a i c k (s ++ t)
+puts-then {a} {i = i} {s = s} {t = t} p q =
+    record {
+      bytes = q .bytes ∙ rw (p .bytes, p .next, encode-append s t) (sets-join (encode s) (encode t) a i);
+      next = rw (encode-append s t) (omega (arith, p .next, q .next, length-append (encode s) (encode t)));
+    }
+
+pub encode-breaks : (k : ℕ) → encode (replicate k 10) ≡ replicate k 10
+unfolding encode bytesOf
+encode-breaks zero = refl
+encode-breaks (suc k) = rw (encode-breaks k)
+
+-- by what `put_breaks` ensures
+pub puts-breaks : {before after : List ℕ} {n r : ℕ} (k : ℕ) → (after ≡ sets before n (replicate k 10)) × (r ≡ n + k) → Puts before n after r (replicate k 10)
+puts-breaks k e = record { bytes = e .0 ∙ rw (encode-breaks k); next = e .1 ∙ rw (encode-breaks k, length-replicate {A = ℕ} k 10) }
+
+-- of the run x, the run y is left to write, from k on; the place behind it is the same
+pub record Wrote (before : List ℕ) (n : ℕ) (x : Run) (after : List ℕ) (k : ℕ) (y : Run) : Type 0 where
+  pub place : x .place ≡ y .place
+  pub text : sets before n (encode (x .text)) ≡ sets after k (encode (y .text))
+  pub size : n + length (encode (x .text)) ≡ k + length (encode (y .text))
+
+pub wrote-none : {before : List ℕ} {n : ℕ} {x y : Run} → x ≡ y → Wrote before n x before n y
+wrote-none e = rw e (record { place = refl; text = refl; size = refl })
+
+pub wrote-text : {before after : List ℕ} {n k : ℕ} {x y : Run} {t : List ℕ} → Puts before n after k t → x ≡ before-run t y → Wrote before n x after k y
+wrote-text {before} {after} {n} {k} {x} {y} {t} p e =
+    rw e
+    (record {
+      place = refl;
+      text = rw (p .bytes, p .next, encode-append t (y .text)) (sym (sets-join (encode t) (encode (y .text)) before n));
+      size = rw (encode-append t (y .text)) (omega (arith, p .next, length-append (encode t) (encode (y .text))));
+    })
+
+pub wrote-then : {a b c : List ℕ} {i j k : ℕ} {x y z : Run} → Wrote a i x b j y → Wrote b j y c k z → Wrote a i x c k z
+wrote-then p q = record { place = p .place ∙ q .place; text = p .text ∙ q .text; size = p .size ∙ q .size }
+
+-- where the last of it is stored
+pub wrote-done : {before mid after : List ℕ} {n k r : ℕ} {x y : Run} → Wrote before n x mid k y → Puts mid k after r (y .text) → Puts before n after r (x .text)
+wrote-done w p = record { bytes = p .bytes ∙ sym (w .text); next = p .next ∙ sym (w .size) }
