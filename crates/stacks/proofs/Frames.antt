@@ -1,47 +1,45 @@
--- Laws of frames: what is stored is read back, and the frames below stay.
+-- Laws of frames: what is stored is read back, and all else stays.
 use Prim.Native.Nat.{_%_, _*_, _+_, _/_, _<_, _≤_, suc, zero, ℕ}
 use mathlib.Core.Bool.{Bool, false, true}
 use mathlib.Core.List.{List, [], _∷_}
 use mathlib.Core.Path.{_∙_, _≡_, refl}
-use native.Mathlib.Numerals.{add-one}
 use native.Mathlib.Omega.{arith}
 use lib.Dec.{eqb}
 use lib.ListN.{getD, length, length-set, set}
 use lib.Seq.{getD-set-other, getD-set-same, sets}
+use borrow.Author.Tests.{eqb-true}
 use Rattle.yaml_text.specs.declared.Mark.{Mark}
 use Rattle.yaml_text.specs.Pick.{pick}
+use Rattle.yaml_text.specs.Test.{by-test}
 use Rattle.yaml_scan.specs.declared.Candidate.{Candidate}
 use Rattle.yaml_scan.specs.declared.Candidate.the-variants.{Absent, Possible}
 use Rattle.yaml_scan.specs.declared.Level.{Level}
 use Rattle.stacks.specs.Bit.{bit, bit-low}
-use Rattle.stacks.specs.Frame.{Pushes, frame-keys, frame-levels, frame-words, key-at, key-of, level-bits, level-of, level-word, levels-seen, no-mark, six}
+use Rattle.stacks.specs.Frame.{SetsKey, SetsLevel, frame-keys, frame-levels, is-required, key-at, key-of, key-words, level-bits, level-of, level-word, with-level}
 
 -- words that were stored
 
-pub sets-six : (l : List ℕ) (n a b c d e f : ℕ)
-    → set (set (set (set (set (set l n a) (n + 1) b) (n + 2) c) (n + 3) d) (n + 4) e) (n + 5) f ≡ sets l n (a ∷ b ∷ c ∷ d ∷ e ∷ f ∷ [])
-sets-six l n a b c d e f =
+pub sets-five : (l : List ℕ) (n a b c d e : ℕ)
+    → set (set (set (set (set l n a) (n + 1) b) (n + 2) c) (n + 3) d) (n + 4) e ≡ sets l n (a ∷ b ∷ c ∷ d ∷ e ∷ [])
+sets-five l n a b c d e =
     let p : n + 1 ≡ suc n = omega arith in
     let q : n + 2 ≡ suc (suc n) = omega arith in
     let r : n + 3 ≡ suc (suc (suc n)) = omega arith in
     let s : n + 4 ≡ suc (suc (suc (suc n))) = omega arith in
-    let t : n + 5 ≡ suc (suc (suc (suc (suc n)))) = omega arith in
-    rw (p, q, r, s, t)
+    rw (p, q, r, s)
 
-getD-sets-before : (vs l : List ℕ) (n k : ℕ) → k < n → getD (sets l n vs) k 0 ≡ getD l k 0
-getD-sets-before [] l n k h = refl
-getD-sets-before (v ∷ vs) l n k h =
-    let g : k < suc n = omega arith in
-    let o : k ≡ n → ⊥ = omega arith in
-    getD-sets-before vs (set l n v) (suc n) k g ∙ getD-set-other l n k v 0 o
+getD-sets-other : (vs l : List ℕ) (n k : ℕ) → (n ≤ k → k < n + length vs → ⊥) → getD (sets l n vs) k 0 ≡ getD l k 0
+getD-sets-other [] l n k h = refl
+getD-sets-other (v ∷ vs) l n k h =
+    let o : k ≡ n → ⊥ = λ e. h (omega arith) (omega arith) in
+    getD-sets-other vs (set l n v) (suc n) k (λ f g. h (omega arith) (omega arith)) ∙ getD-set-other l n k v 0 o
 
 getD-sets : (vs l : List ℕ) (n j : ℕ) → n + length vs ≤ length l → j < length vs → getD (sets l n vs) (n + j) 0 ≡ getD vs j 0
 getD-sets [] l n j h g = absurd (omega arith)
 getD-sets (v ∷ vs) l n zero h g =
     let e : n + 0 ≡ n = omega arith in
-    let k : n < suc n = omega arith in
     let o : n < length l = omega arith in
-    rw e (getD-sets-before vs (set l n v) (suc n) n k ∙ getD-set-same l n v 0 o)
+    rw e (getD-sets-other vs (set l n v) (suc n) n (λ f g. omega arith) ∙ getD-set-same l n v 0 o)
 getD-sets (v ∷ vs) l n (suc j) h g =
     let e : n + suc j ≡ suc n + j = omega arith in
     let k : suc n + length vs ≤ length (set l n v) = omega (arith, length-set l n v) in
@@ -87,86 +85,132 @@ level-back l =
     rw (digit-1 a b c d f g h i, digit-2 a b c d f g h i, digit-4 a b c d f g h i, digit-8 a b c d f g h i)
     (rw (bit-is (l .sequence), bit-is (l .colon), bit-is (l .question), bit-is (l .implicit)))
 
--- a frame that was stored is read back
+-- a candidate that was stored is read back
 
-module _ (l : List ℕ) (n k c : ℕ) (m : Mark) (w : ℕ) (h : n + 6 ≤ length l) where
-  word : (j : ℕ) → j < 6 → getD (sets l n (six k c m w)) (n + j) 0 ≡ getD (six k c m w) j 0
-  word j g = getD-sets (six k c m w) l n j h g
-
-  first-word : getD (sets l n (six k c m w)) n 0 ≡ k
-  first-word = let e : n + 0 ≡ n = omega arith in rw e at (word 0 (omega arith))
-
-  key-six : key-at (sets l n (six k c m w)) n ≡ pick (eqb k 0) Absent (Possible (eqb k 2) c m)
+module _ (l : List ℕ) (n : ℕ) (h : n + 5 ≤ length l) where
+  key-absent : key-at (set l n 0) n ≡ Absent
   unfolding key-at
-  key-six = rw (first-word, word 1 (omega arith), word 2 (omega arith), word 3 (omega arith), word 4 (omega arith))
+  key-absent = let o : n < length l = omega arith in rw (getD-set-same l n 0 0 o)
 
-module _ (a : List ℕ) (d : ℕ) (l : Level) (h : (d + 1) * 6 ≤ length a) where
-  fits : d * 6 + 6 ≤ length a
-  fits = omega arith
+  module _ (k c : ℕ) (m : Mark) where
+    abbrev five : List ℕ
+    five = k ∷ c ∷ m .index ∷ m .line ∷ m .col ∷ []
 
-  key-back : (k : Candidate) → key-of (sets a (d * 6) (frame-words k l)) d ≡ k
-  unfolding frame-words
-  key-back Absent = key-six a (d * 6) 0 0 no-mark (level-word l) fits
-  key-back (Possible true n m) = key-six a (d * 6) 2 n m (level-word l) fits
-  key-back (Possible false n m) = key-six a (d * 6) 1 n m (level-word l) fits
+    word : (j : ℕ) → j < 5 → getD (sets l n five) (n + j) 0 ≡ getD five j 0
+    word j g = getD-sets five l n j h g
 
-  level-read : (k : Candidate) → getD (sets a (d * 6) (frame-words k l)) (d * 6 + 5) 0 ≡ level-word l
-  unfolding frame-words
-  level-read Absent = word a (d * 6) 0 0 no-mark (level-word l) fits 5 (omega arith)
-  level-read (Possible r n m) = word a (d * 6) (1 + bit r) n m (level-word l) fits 5 (omega arith)
+    first-word : getD (sets l n five) n 0 ≡ k
+    first-word = let e : n + 0 ≡ n = omega arith in rw e at (word 0 (omega arith))
+
+    key-five : key-at (sets l n five) n ≡ pick (eqb k 0) Absent (Possible (eqb k 2) c m)
+    unfolding key-at
+    key-five = rw (first-word, word 1 (omega arith), word 2 (omega arith), word 3 (omega arith), word 4 (omega arith))
+
+  key-back : (k : Candidate) → key-at (sets l n (key-words k)) n ≡ k
+  unfolding key-words
+  key-back Absent = key-absent
+  key-back (Possible true c m) = key-five 2 c m
+  key-back (Possible false c m) = key-five 1 c m
+
+key-few : (k : Candidate) → length (key-words k) ≤ 5
+unfolding key-words
+key-few Absent = omega arith
+key-few (Possible r n m) = omega arith
+
+-- whether it is required is told by its first word
+
+pub required-word : (a : List ℕ) (n : ℕ) → eqb (getD a n 0) 2 ≡ is-required (key-at a n)
+unfolding key-at is-required
+required-word a n =
+    by-test (eqb (getD a n 0) 0)
+    (λ q. let e = eqb-true (getD a n 0) 0 q in rw e)
+    (λ q. rw q)
 
 -- frames of the same words are the same
 
-abbrev Same : List ℕ → List ℕ → ℕ → Type 0
-Same a e n = (k : ℕ) → k < n → getD e k 0 ≡ getD a k 0
-
-key-same : (a e : List ℕ) (n : ℕ) → Same a e (n + 6) → key-at e n ≡ key-at a n
+key-same : (a e : List ℕ) (n : ℕ) → ((j : ℕ) → j < 5 → getD e (n + j) 0 ≡ getD a (n + j) 0) → key-at e n ≡ key-at a n
 unfolding key-at
 key-same a e n s =
-    rw (s n (omega arith), s (n + 1) (omega arith), s (n + 2) (omega arith), s (n + 3) (omega arith), s (n + 4) (omega arith))
+    let z : n + 0 ≡ n = omega arith in
+    let f : getD e n 0 ≡ getD a n 0 = rw z at (s 0 (omega arith)) in
+    rw (f, s 1 (omega arith), s 2 (omega arith), s 3 (omega arith), s 4 (omega arith))
 
-keys-same : (a e : List ℕ) (d : ℕ) → Same a e (d * 6) → frame-keys e d ≡ frame-keys a d
+keys-same : (a e : List ℕ) (d : ℕ) → ((n : ℕ) → n < d → key-of e n ≡ key-of a n) → frame-keys e d ≡ frame-keys a d
 unfolding frame-keys
 keys-same a e zero s = refl
-keys-same a e (suc d) s =
-    rw (key-same a e (d * 6) (λ k h. s k (omega arith)), keys-same a e d (λ k h. s k (omega arith)))
+keys-same a e (suc d) s = rw (s d (omega arith), keys-same a e d (λ n h. s n (omega arith)))
 
-levels-same : (a e : List ℕ) (d : ℕ) → Same a e (d * 6 + 6) → frame-levels e d ≡ frame-levels a d
+levels-same : (a e : List ℕ) (d : ℕ) → ((n : ℕ) → n ≤ d → level-of e n ≡ level-of a n) → frame-levels e d ≡ frame-levels a d
 unfolding frame-levels
 levels-same a e zero s = refl
-levels-same a e (suc d) s =
-    rw (s (suc d * 6 + 5) (omega arith), levels-same a e d (λ k h. s k (omega arith)))
+levels-same a e (suc d) s = rw (s (suc d) (omega arith), levels-same a e d (λ n h. s n (omega arith)))
 
--- a push
-
-keys-on : (a e : List ℕ) (d : ℕ) (k : Candidate) → key-of e d ≡ k → Same a e (d * 6) → frame-keys e (d + 1) ≡ k ∷ frame-keys a d
-unfolding frame-keys
-keys-on a e d k q s = rw (add-one d, q, keys-same a e d s)
-
-levels-on : (a e : List ℕ) (d : ℕ) (l : Level) → level-of e d ≡ l → Same a e (d * 6) → frame-levels e d ≡ levels-seen a d l
-unfolding frame-levels levels-seen
+levels-on : (a e : List ℕ) (d : ℕ) (l : Level) → level-of e d ≡ l → ((n : ℕ) → (n ≡ d → ⊥) → level-of e n ≡ level-of a n)
+    → frame-levels e d ≡ with-level l (frame-levels a d)
+unfolding frame-levels with-level
 levels-on a e zero l q s = refl
-levels-on a e (suc d) l q s = rw (q, levels-same a e d (λ k h. s k (omega arith)))
+levels-on a e (suc d) l q s = rw (q, levels-same a e d (λ n h. s n (λ f. omega arith)))
 
-module _ (a : List ℕ) {e : List ℕ} (d : ℕ) (k : Candidate) (l : Level) (h : (d + 1) * 6 ≤ length a) where
-  pushed : e ≡ sets a (d * 6) (frame-words k l) → Pushes a e d k l
-  pushed q =
-      let key : key-of e d ≡ k = rw q (key-back a d l h k) in
-      let level : level-of e d ≡ l = rw (q, level-read a d l h k) (level-back l) in
-      let same : Same a e (d * 6) = λ j g. rw q (getD-sets-before (frame-words k l) a (d * 6) j g) in
-      record {
-        words = q;
-        key = key;
-        level = level;
-        keys = keys-on a e d k key same;
-        levels = levels-on a e d l level same;
-      }
+-- a candidate is stored
 
-  pub pushed-absent : {w : ℕ} → k ≡ Absent → w ≡ level-word l → e ≡ sets a (d * 6) (six 0 0 no-mark w) → Pushes a e d k l
-  unfolding frame-words
-  pushed-absent p v q = pushed (rw (p, ← v) q)
+module _ (a : List ℕ) (d : ℕ) (k : Candidate) where
+  abbrev with-key : List ℕ
+  with-key = sets a (d * 6) (key-words k)
 
-  pub pushed-possible : {r : Bool} {n : ℕ} {m : Mark} {w : ℕ} → k ≡ Possible r n m → w ≡ level-word l
-      → e ≡ sets a (d * 6) (six (1 + bit r) n m w) → Pushes a e d k l
-  unfolding frame-words
-  pushed-possible p v q = pushed (rw (p, ← v) q)
+  apart : (n j : ℕ) → j < 6 → (n ≡ d → ⊥) → getD with-key (n * 6 + j) 0 ≡ getD a (n * 6 + j) 0
+  apart n j h o =
+      let w = key-few k in
+      getD-sets-other (key-words k) a (d * 6) (n * 6 + j) (λ f g. o (omega arith))
+
+  key-apart : (n : ℕ) → (n ≡ d → ⊥) → key-of with-key n ≡ key-of a n
+  key-apart n o = key-same a with-key (n * 6) (λ j h. apart n j (omega arith) o)
+
+  level-apart : (n : ℕ) → level-of with-key n ≡ level-of a n
+  level-apart n =
+      let w = key-few k in
+      rw (getD-sets-other (key-words k) a (d * 6) (n * 6 + 5) (λ f g. omega arith))
+
+  below-apart : (n : ℕ) → n ≤ d → frame-keys with-key n ≡ frame-keys a n
+  below-apart n h = keys-same a with-key n (λ m l. key-apart m (λ e. omega arith))
+
+  pub key-stored : {e : List ℕ} → d * 6 + 6 ≤ length a → e ≡ with-key → SetsKey a e d k
+  unfolding frame-keys
+  key-stored h q =
+      let b = key-back a (d * 6) (omega arith) k in
+      rw q (record {
+        words = refl;
+        key = b;
+        others = key-apart;
+        below = below-apart;
+        keys = rw (b, below-apart d (omega arith));
+        level = level-apart;
+        levels = λ n. levels-same a with-key n (λ m l. level-apart m);
+      })
+
+-- a level is stored
+
+module _ (a : List ℕ) (d : ℕ) (l : Level) where
+  abbrev with-word : List ℕ
+  with-word = set a (d * 6 + 5) (level-word l)
+
+  word-apart : (k : ℕ) → (k ≡ d * 6 + 5 → ⊥) → getD with-word k 0 ≡ getD a k 0
+  word-apart k o = getD-set-other a (d * 6 + 5) k (level-word l) 0 o
+
+  key-stays : (n : ℕ) → key-of with-word n ≡ key-of a n
+  key-stays n = key-same a with-word (n * 6) (λ j h. word-apart (n * 6 + j) (λ e. omega arith))
+
+  level-stays : (n : ℕ) → (n ≡ d → ⊥) → level-of with-word n ≡ level-of a n
+  level-stays n o = rw (word-apart (n * 6 + 5) (λ e. o (omega arith)))
+
+  pub level-stored : {e : List ℕ} → d * 6 + 6 ≤ length a → e ≡ with-word → SetsLevel a e d l
+  level-stored h q =
+      let o : d * 6 + 5 < length a = omega arith in
+      let b : level-of with-word d ≡ l = rw (getD-set-same a (d * 6 + 5) (level-word l) 0 o) (level-back l) in
+      rw q (record {
+        words = refl;
+        level = b;
+        others = level-stays;
+        levels = levels-on a with-word d l b level-stays;
+        key = key-stays;
+        keys = λ n. keys-same a with-word n (λ m l. key-stays m);
+      })

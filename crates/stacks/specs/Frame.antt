@@ -1,13 +1,11 @@
--- Frames in a lent slice, six words each: the candidate's five, and the flow level's.
-use Prim.Native.Nat.{_%_, _*_, _+_, _-_, _/_, _<_, suc, zero, ℕ}
+-- Frames in a lent slice, six words each: the candidate's five, and the flow level's. A frame's number is its flow level.
+use Prim.Native.Nat.{_%_, _*_, _+_, _/_, _≤_, suc, zero, ℕ}
+use mathlib.Core.Bool.{Bool, false}
 use mathlib.Core.List.{List, [], _∷_}
-use mathlib.Core.Path.{_≡_, refl}
-use native.Mathlib.Numerals.{add-one}
-use native.Mathlib.Omega.{arith}
+use mathlib.Core.Path.{_≡_}
 use lib.Dec.{eqb}
-use lib.ListN.{getD}
+use lib.ListN.{getD, set}
 use lib.Seq.{sets}
-use Rattle.yaml_text.specs.declared.Mark.{Mark}
 use Rattle.yaml_text.specs.Pick.{pick}
 use Rattle.yaml_scan.specs.declared.Candidate.{Candidate}
 use Rattle.yaml_scan.specs.declared.Candidate.the-variants.{Absent, Possible}
@@ -20,9 +18,21 @@ key-at a n =
     pick (eqb (getD a n 0) 0) Absent
     (Possible (eqb (getD a n 0) 2) (getD a (n + 1) 0) (record { index = getD a (n + 2) 0; line = getD a (n + 3) 0; col = getD a (n + 4) 0 }))
 
+-- the words that are stored for it
+unfoldable pub key-words : Candidate → List ℕ
+key-words Absent = 0 ∷ []
+key-words (Possible required n m) = (1 + bit required) ∷ n ∷ m .index ∷ m .line ∷ m .col ∷ []
+
+unfoldable pub is-required : Candidate → Bool
+is-required Absent = false
+is-required (Possible required n m) = required
+
 unfoldable pub level-bits : ℕ → Level
 level-bits w =
     record { sequence = eqb (w % 2) 1; colon = eqb (w / 2 % 2) 1; question = eqb (w / 4 % 2) 1; implicit = eqb (w / 8 % 2) 1 }
+
+unfoldable pub level-word : Level → ℕ
+level-word l = bit (l .sequence) + 2 * bit (l .colon) + 4 * bit (l .question) + 8 * bit (l .implicit)
 
 abbrev pub key-of : List ℕ → ℕ → Candidate
 key-of a d = key-at a (d * 6)
@@ -40,45 +50,26 @@ unfoldable pub frame-levels : List ℕ → ℕ → List Level
 frame-levels a zero = []
 frame-levels a (suc d) = level-of a (suc d) ∷ frame-levels a d
 
--- the levels at a depth, whose own is l
-unfoldable pub levels-seen : List ℕ → ℕ → Level → List Level
-levels-seen a zero l = []
-levels-seen a (suc d) l = l ∷ frame-levels a d
+-- the innermost level is another one; at level 0 there is none
+unfoldable pub with-level : Level → List Level → List Level
+with-level l [] = []
+with-level l (k ∷ ks) = l ∷ ks
 
-unfoldable pub level-word : Level → ℕ
-level-word l = bit (l .sequence) + 2 * bit (l .colon) + 4 * bit (l .question) + 8 * bit (l .implicit)
-
-abbrev pub six : ℕ → ℕ → Mark → ℕ → List ℕ
-six k n m w = k ∷ n ∷ m .index ∷ m .line ∷ m .col ∷ w ∷ []
-
-abbrev pub no-mark : Mark
-no-mark = record { index = 0; line = 0; col = 0 }
-
-unfoldable pub frame-words : Candidate → Level → List ℕ
-frame-words Absent l = six 0 0 no-mark (level-word l)
-frame-words (Possible required n m) l = six (1 + bit required) n m (level-word l)
-
--- frame number d is stored, from the words a to e
-pub record Pushes (a e : List ℕ) (d : ℕ) (k : Candidate) (l : Level) : Type 0 where
-  pub words : e ≡ sets a (d * 6) (frame-words k l)
+-- frame number d has the candidate k, from the words a to e; all else stays
+pub record SetsKey (a e : List ℕ) (d : ℕ) (k : Candidate) : Type 0 where
+  pub words : e ≡ sets a (d * 6) (key-words k)
   pub key : key-of e d ≡ k
+  pub others : (n : ℕ) → (n ≡ d → ⊥) → key-of e n ≡ key-of a n
+  pub below : (n : ℕ) → n ≤ d → frame-keys e n ≡ frame-keys a n
+  pub keys : frame-keys e (suc d) ≡ k ∷ frame-keys a d
+  pub level : (n : ℕ) → level-of e n ≡ level-of a n
+  pub levels : (n : ℕ) → frame-levels e n ≡ frame-levels a n
+
+-- frame number d has the level l, from the words a to e; all else stays
+pub record SetsLevel (a e : List ℕ) (d : ℕ) (l : Level) : Type 0 where
+  pub words : e ≡ set a (d * 6 + 5) (level-word l)
   pub level : level-of e d ≡ l
-  pub keys : frame-keys e (d + 1) ≡ k ∷ frame-keys a d
-  pub levels : frame-levels e d ≡ levels-seen a d l
-
--- One level deeper, what was pushed is below the new level.
-pub levels-push : (a : List ℕ) (d : ℕ) (l : Level) → levels-seen a (d + 1) l ≡ l ∷ frame-levels a d
-unfolding levels-seen
-levels-push a d l = rw (add-one d)
-
--- One level less deep, the frame's candidate and level are the current ones.
-pub keys-pop : (a : List ℕ) (d : ℕ) → 0 < d → frame-keys a d ≡ key-of a (d - 1) ∷ frame-keys a (d - 1)
-unfolding frame-keys
-keys-pop a zero h = absurd (omega arith)
-keys-pop a (suc d) h = let e : suc d - 1 ≡ d = omega arith in rw e
-
-pub levels-pop : (a : List ℕ) (d : ℕ) (l : Level) → 0 < d → levels-seen a d l ≡ l ∷ levels-seen a (d - 1) (level-of a (d - 1))
-unfolding levels-seen frame-levels
-levels-pop a zero l h = absurd (omega arith)
-levels-pop a (suc zero) l h = refl
-levels-pop a (suc (suc d)) l h = let e : suc (suc d) - 1 ≡ suc d = omega arith in rw e
+  pub others : (n : ℕ) → (n ≡ d → ⊥) → level-of e n ≡ level-of a n
+  pub levels : frame-levels e d ≡ with-level l (frame-levels a d)
+  pub key : (n : ℕ) → key-of e n ≡ key-of a n
+  pub keys : (n : ℕ) → frame-keys e n ≡ frame-keys a n

@@ -1,0 +1,9 @@
+pub mod Kinds
+pub mod Tokens
+pub mod Put
+pub mod Settle
+pub mod Slots
+pub mod Flat
+pub mod Sunk
+pub mod Told
+pub mod Noted

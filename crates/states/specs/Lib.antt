@@ -1,0 +1,9 @@
+pub mod State
+pub mod Rest
+pub mod Seen
+pub mod Key
+pub mod Say
+pub mod Weighed
+pub mod Laid
+pub mod Fetch
+pub mod Goes

@@ -1,0 +1,45 @@
+-- What the definition sees of a state.
+use Prim.Native.Nat.{_≤_, suc, zero, ℕ}
+use mathlib.Core.Bool.{Bool, false, true}
+use mathlib.Core.List.{List, [], _∷_}
+use mathlib.Core.Path.{_≡_, refl, sym}
+use native.Mathlib.Omega.{arith}
+use lib.Dec.{eqb, ltb}
+use borrow.Author.Tests.{eqb-false, eqb-true, lt-ltb}
+use Rattle.yaml_text.specs.Test.{by-test}
+use Rattle.yaml_scan.specs.declared.Candidate.{Candidate}
+use Rattle.yaml_scan.specs.declared.Level.{Level}
+use Rattle.yaml_scan.specs.Keys.{top-key}
+use Rattle.yaml_scan.specs.State.{in-flow}
+use Rattle.stacks.specs.Frame.{SetsKey, SetsLevel, frame-keys, frame-levels, key-of}
+use Rattle.states.specs.declared.State.{State}
+use Rattle.states.specs.State.{KeysLow, key-mark, state-of}
+
+some-level : List Level → Bool
+some-level ls = elim ls [ [] ↦ false | l ∷ ls ↦ true ]
+
+some-seen : (frames : List ℕ) (d : ℕ) → some-level (frame-levels frames d) ≡ ltb 0 d
+unfolding some-level frame-levels
+some-seen frames zero = refl
+some-seen frames (suc d) = sym (lt-ltb 0 (suc d) (omega arith))
+
+module _ (text entries frames : List ℕ) (count : ℕ) (s : State) where
+  pub in-flow-seen : in-flow (state-of text entries frames count s) ≡ ltb 0 (s .depth)
+  unfolding in-flow some-level
+  in-flow-seen = some-seen frames (s .depth)
+
+-- the candidate of the current level
+pub top-seen : (frames : List ℕ) (d : ℕ) → top-key (frame-keys frames (suc d)) ≡ key-of frames d
+unfolding top-key frame-keys
+top-seen frames d = refl
+
+-- what is stored in the frames keeps the columns low
+
+pub low-key : {a e : List ℕ} {d : ℕ} {k : Candidate} → SetsKey a e d k → KeysLow a → key-mark k .col ≤ 1_048_576 → KeysLow e
+low-key {d = d} w h l n =
+    by-test (eqb n d)
+    (λ q. let f = eqb-true n d q in rw (f, w .key) l)
+    (λ q. rw (w .others n (eqb-false n d q)) (h n))
+
+pub low-level : {a e : List ℕ} {d : ℕ} {l : Level} → SetsLevel a e d l → KeysLow a → KeysLow e
+low-level w h n = rw (w .key n) (h n)

@@ -1,0 +1,4 @@
+pub mod Anchors
+pub mod Laying
+pub mod Parts
+pub mod Tags

@@ -1,0 +1,3 @@
+pub mod Encode
+pub mod Run
+pub mod RunLaws
