@@ -23,13 +23,13 @@ use Rattle.chars.specs.View.{Stands, view}
 use Rattle.reading.specs.declared.Reading.{Reading}
 use Rattle.reading.specs.Reading.{laid-read, seen, text-size}
 use Rattle.blocks.specs.declared.Block.{Block}
-use Rattle.blocks.specs.declared.content.Content.{Content}
-use Rattle.blocks.specs.declared.content.Layout.{Layout}
-use Rattle.blocks.specs.declared.margin.Margin.{Margin}
-use Rattle.blocks.specs.Content.{Ends, Settles, first-of, line-of, more-of, own-of, pending}
+use Rattle.contents.specs.declared.Content.{Content}
+use Rattle.contents.specs.declared.Layout.{Layout}
+use Rattle.headers.specs.declared.margin.Margin.{Margin}
+use Rattle.contents.specs.Content.{Ends, Settles, first-of, line-of, more-of, own-of, pending}
 use Rattle.blocks.specs.Scan.{Lexed, content-lexeme, empty-lexeme, scalar-lexeme, scalar-token}
-use Rattle.blocks.specs.Written.{Puts, puts-breaks, wrote-done}
-use Rattle.blocks.proofs.Ends.{last-replicate}
+use Rattle.contents.specs.Written.{Puts, puts-breaks, wrote-done}
+use Rattle.contents.proofs.Ends.{last-replicate}
 
 pub scalar-lexed : {text before after : List ℕ} {n : ℕ} {r : Reading} {p : Place} {d : Run} (k : Block) (start : Mark) → r ≡ scalar-token k n start p
     → Puts before 0 after n (d .text) → d .place ≡ view text p → Stands text p → n ≤ p .at → 1 ≤ p .at → length text ≤ 2 ^ 20

@@ -27,15 +27,14 @@ use Rattle.reading.specs.declared.Reading.{Reading}
 use Rattle.reading.specs.declared.Reading.the-variants as reading
 use Rattle.reading.specs.Reading.{Clears, Indicated, Lexes, bytes-after, cleared, first-at, laid-read, seen}
 use Rattle.blocks.specs.declared.Block.{Block}
-use Rattle.blocks.specs.declared.content.Layout.{Layout}
-use Rattle.blocks.specs.declared.header.Header.{Header}
-use Rattle.blocks.specs.declared.header.Headed.{Headed}
-use Rattle.blocks.specs.declared.header.Headed.the-variants.{Got, Zero}
-use Rattle.blocks.specs.declared.margin.Margin.{Margin}
-use Rattle.blocks.specs.Content.{Settles, first-of, layout-of, more-of, own-of}
-use Rattle.blocks.specs.Header.{Heads, seen-header}
-use Rattle.blocks.specs.Lines.{margin-ends, margin-goes}
-use Rattle.blocks.specs.Margin.{Margins}
+use Rattle.contents.specs.declared.Layout.{Layout}
+use Rattle.headers.specs.declared.header.Header.{Header}
+use Rattle.headers.specs.declared.header.Headed.{Headed}
+use Rattle.headers.specs.declared.header.Headed.the-variants.{Got, Zero}
+use Rattle.headers.specs.declared.margin.Margin.{Margin}
+use Rattle.contents.specs.Content.{Settles, first-of, layout-of, more-of, own-of}
+use Rattle.headers.specs.Header.{Heads, seen-header}
+use Rattle.headers.specs.Margin.{Margins, margin-ends, margin-goes}
 use Rattle.blocks.specs.Scan.{Lexed, Ready, after-header, content-lexeme, cut, empty-lexeme, header-end, header-of, margin-of, style-of, under-header}
 
 module _ {text before after : List ℕ} {used : ℕ} {r : Reading} where

@@ -26,10 +26,10 @@ use Rattle.reading.specs.declared.Reading.{Reading}
 use Rattle.reading.specs.declared.Reading.the-variants as reading
 use Rattle.reading.specs.Reading.{Ahead, laid-read, seen}
 use Rattle.blocks.specs.declared.Block.{Block}
-use Rattle.blocks.specs.declared.content.Layout.{Layout}
-use Rattle.blocks.specs.declared.header.Header.{Header}
-use Rattle.blocks.specs.declared.margin.Margin.{Margin}
-use Rattle.blocks.specs.Content.{content-at}
+use Rattle.contents.specs.declared.Layout.{Layout}
+use Rattle.headers.specs.declared.header.Header.{Header}
+use Rattle.headers.specs.declared.margin.Margin.{Margin}
+use Rattle.contents.specs.Content.{content-at}
 
 -- the lent bytes where a token was read; a refusal leaves them to the caller
 abbrev pub Written : List ℕ → List ℕ → Read Lexeme → Type 0

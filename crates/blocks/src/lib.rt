@@ -1,5 +1,6 @@
 // K7: block scalars (29 to 32).
-ghost use Prim.Native.Nat.{_+_, _<_, _^_, _≤_};
+ghost use Prim.Native.Nat.{_+_, _<_, _^_, _≤_, ℕ};
+ghost use mathlib.Core.List.{List};
 ghost use mathlib.Core.Path.{_≡_};
 ghost use lib.ListN.{replicate};
 ghost use Rattle.yaml_text.specs.Pick.{pick};
@@ -8,25 +9,25 @@ ghost use Rattle.yaml_lexeme.specs.declared.Style.the-variants.{Folded, Literal
 ghost use Rattle.yaml_lexeme.specs.Block as definition;
 ghost use Rattle.chars.specs.View.{view};
 ghost use Rattle.reading.specs.Reading.{Indicated, Lexes, first-at};
-ghost use Rattle.blocks.specs.Content.{Settles, first-of, layout-of};
+ghost use Rattle.contents.specs.Content.{Settles, first-of, layout-of};
 ghost use Rattle.blocks.specs.Scan.{Lexed, Ready, after-header, content-lexeme, empty-lexeme, header-end, header-of, margin-of, scalar-token, under-header};
 use chars::class::is_breakz;
 use chars::mark::Place;
 use chars::mark::skip_break;
-use content::Layout;
-use content::chomped;
-use content::ends_at;
-use content::one_if;
-use content::opens_content;
-use content::read_content;
+use contents::Layout;
+use contents::chomped;
+use contents::ends_at;
+use contents::one_if;
+use contents::opens_content;
+use contents::read_content;
 use gaps::blanks_and_comment;
-use header::Headed;
-use header::Header;
-use header::indicators;
-use margin::Margin;
-use margin::content_column;
-use margin::larger;
-use margin::skip_margin;
+use headers::header::Headed;
+use headers::header::Header;
+use headers::header::indicators;
+use headers::margin::Margin;
+use headers::margin::content_column;
+use headers::margin::larger;
+use headers::margin::skip_margin;
 use reading::Reached;
 use reading::Reading;
 use reading::clear_refused;
@@ -39,10 +40,6 @@ use yaml_lexeme::Chomping;
 use yaml_lexeme::Kind;
 use yaml_lexeme::Style;
 use yaml_text::Mark;
-
-pub mod content;
-pub mod header;
-pub mod margin;
 
 // What a block scalar is read with. parent: the block's own indent + 1; used: how many bytes of text stand before its own.
 pub struct Block {
@@ -108,9 +105,8 @@ fn no_content(chomping: Chomping, n: u32, part: bool) -> u32
 }
 
 // The scalar of a text that ends before any content.
-fn empty_scalar(text: &[u8], k: Block, b: Layout, g: Margin, out: &mut [u8]) -> Reading
-    requires { ⌜ Settles (now text) b (first-of g) ⌝ }
-    ensures { λ r. ⌜ Lexed (now (text .entry)) (now (out .entry)) (now (out .exit)) (k .used) r (got (empty-lexeme (now (text .entry)) k b g)) ⌝ }
+fn empty_scalar(k: Block, b: Layout, g: Margin, out: &mut [u8]) -> Reading
+    ensures { λ r. ⌜ ((text : List ℕ) → Settles text b (first-of g) → Lexed text (now (out .entry)) (now (out .exit)) (k .used) r (got (empty-lexeme text k b g))) ⌝ }
 {
     let p = g.place;
     let m = k.start;
@@ -129,7 +125,7 @@ fn block_content(text: &[u8], k: Block, b: Layout, g: Margin, out: &mut [u8]) ->
     let m = p.mark;
     let at = p.at;
     if ends_at(text, at) {
-        return empty_scalar(text, k, b, g, out);
+        return empty_scalar(k, b, g, out);
     }
     if opens_content(text, p) & (m.col < b.column) & (k.parent <= m.col) {
         return refuse(32, m);

@@ -48,16 +48,19 @@ module _ {text before after : List ℕ} {r : Texts} where
   unfolding seen-texts laid-texts
   laid-got {d = got t} h e =
       let w = got-is (rw e at (h .same)) in
-      let k = rw e at (h .ahead) in
-      (t, refl, record {
-        one = ap (λ (x : Laid). x .one) w;
-        other = ap (λ (x : Laid). x .other) w;
-        place = ap (λ (x : Laid). x .place) w;
-        bytes = ap (λ (x : Laid). x .bytes) w;
-        stands = k .0;
-        some = k .1;
-        few = k .2;
-      })
+      let k = rw e at (h .ahead) in (
+        t,
+        refl,
+        record {
+          one = ap (λ (x : Laid). x .one) w;
+          other = ap (λ (x : Laid). x .other) w;
+          place = ap (λ (x : Laid). x .place) w;
+          bytes = ap (λ (x : Laid). x .bytes) w;
+          stands = k .0;
+          some = k .1;
+          few = k .2;
+        },
+      )
   laid-got {d = refused n m} h e = let w = rw e at (h .same) in let z : _≡_ {A = ℕ} 0 1 = cc in absurd (omega arith)
 
   pub laid-refused : {d : Read tag.Texts} {f : Refusal} → Lays text before after r d → r ≡ Refused f → d ≡ refused (f .number) (f .mark)

@@ -4,9 +4,14 @@ ghost use Rattle.chars.specs.View.{view};
 ghost use Rattle.reading.specs.Reading.{Indicated, Lexes, first-at};
 ghost use Rattle.reading.specs.Drafts.{Drafts};
 use chars::mark::Place;
-use reading::{Reading, clear_refused, got, refuse, text_at};
+use reading::Reading;
+use reading::clear_refused;
+use reading::got;
+use reading::refuse;
+use reading::text_at;
 use rooms::copy;
-use words::{Class, word};
+use words::Class;
+use words::word;
 use yaml_lexeme::Kind;
 use yaml_text::Mark;
 

@@ -9,14 +9,25 @@ ghost use Rattle.reading.specs.Reading.{Indicated, Lexes, first-at};
 ghost use Rattle.reading.specs.Drafts.{Drafts};
 ghost use Rattle.tags.specs.declared.tag.Texts.the-variants.{Refused};
 ghost use Rattle.tags.specs.Texts.{Lays, Named, Tagged, name-in};
-use chars::class::{is_blank_or_breakz, is_flow};
+use chars::class::is_blank_or_breakz;
+use chars::class::is_flow;
 use chars::mark::Place;
-use reading::{Reading, clear_refused, got, refuse, text_at};
-use rooms::{copy, word as count};
-use utf8::{byte, look};
-use words::{Class, Run, uri_run, word};
+use reading::Reading;
+use reading::clear_refused;
+use reading::got;
+use reading::refuse;
+use reading::text_at;
+use rooms::copy;
+use rooms::word as count;
+use utf8::byte;
+use utf8::look;
+use words::Class;
+use words::Run;
+use words::uri_run;
+use words::word;
 use yaml_lexeme::Kind;
-use yaml_text::{Mark, Refusal};
+use yaml_text::Mark;
+use yaml_text::Refusal;
 
 // The lengths of both texts, with the place behind them; or a refusal.
 enum Texts {

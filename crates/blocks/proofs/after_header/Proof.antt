@@ -18,12 +18,15 @@ enum-known-r-2 : tie.Need-enum-known-r-2
 enum-known-r-2 c = search needs
 
 header-end-requires : tie.Need-header-end-requires
-header-end-requires c κs = let w = reached-to (c .before .before .before .before .blanks-and-comment .ensures) (c .before .before .r2 .given .1) in ready-on (c .before .before .before .before .before .before .before .before .pre) (record { same = refl; stands = w .1; onward = w .2 })
+header-end-requires c κs =
+    let w = reached-to (c .before .before .before .before .blanks-and-comment .ensures) (c .before .before .r2 .given .1) in
+    ready-on (c .before .before .before .before .before .before .before .before .pre) (record { same = refl; stands = w .1; onward = w .2 })
 
 returns : tie.Need-returns
 returns c =
     let a = c .before .before .before .before .before .before .before .args in
-    lexed-refused refl (after-wrong (a .k) (header-of (now (a .text)) (a .h)) (reached-refused (c .before .before .before .blanks-and-comment .ensures) (c .before .r .given .1)))
+    lexed-refused refl
+    (after-wrong (a .k) (header-of (now (a .text)) (a .h)) (reached-refused (c .before .before .before .blanks-and-comment .ensures) (c .before .r .given .1)))
 
 same-length : tie.Need-same-length
 same-length c = search needs
@@ -31,7 +34,8 @@ same-length c = search needs
 returns-2 : tie.Need-returns-2
 returns-2 c =
     let a = c .before .before .before .before .before .before .before .before .before .before .before .args in
-    lexed-as (c .before .before .header-end .ensures) (after-right (a .k) (header-of (now (a .text)) (a .h)) (reached-to (c .before .before .before .before .before .before .before .blanks-and-comment .ensures) (c .before .before .before .before .before .r2 .given .1) .0))
+    lexed-as (c .before .before .header-end .ensures)
+    (after-right (a .k) (header-of (now (a .text)) (a .h)) (reached-to (c .before .before .before .before .before .before .before .blanks-and-comment .ensures) (c .before .before .before .before .before .r2 .given .1) .0))
 
 pub after-header-spec : {M : Type 1} → statement M
 after-header-spec =

@@ -1,7 +1,7 @@
 -- `blocks::block_content` meets its contract: one case of the definition for each return.
+use denote.Ref.{now}
 use mathlib.Core.Path.{_∙_, sym}
 use Rattle.blocks.proofs.Scans.{block-empty, block-low, block-some, lexed-as, lexed-refused}
-use denote.Ref.{now}
 use borrow.Author.Needs.{needs}
 use Rattle.blocks.proofs.block_content.Statement.{statement}
 use Rattle.blocks.proofs.block_content.Tie as tie
@@ -18,7 +18,8 @@ same-length c = search needs
 returns : tie.Need-returns
 returns c =
     let a = c .before .before .before .before .before .before .before .before .before .before .args in
-    lexed-as (c .before .before .empty-scalar .ensures) (block-empty (now (a .text)) (a .k) (a .b) (a .g) (sym (c .before .before .before .before .before .ends-at .ensures) ∙ c .before .before .before .before .if1 .taken))
+    lexed-as (c .before .before .empty-scalar .ensures (now (a .text)) (c .before .before .before .before .before .before .before .before .before .before .pre))
+    (block-empty (now (a .text)) (a .k) (a .b) (a .g) (sym (c .before .before .before .before .before .ends-at .ensures) ∙ c .before .before .before .before .if1 .taken))
 
 opens-content-requires : tie.Need-opens-content-requires
 opens-content-requires c κs = search needs
@@ -29,7 +30,9 @@ refuse-requires c κs = search needs
 returns-2 : tie.Need-returns-2
 returns-2 c =
     let a = c .before .before .before .before .before .before .before .before .before .before .before .before .before .args in
-    lexed-refused (c .refuse .ensures) (block-low (now (a .text)) (a .k) (a .b) (a .g) (sym (c .before .before .before .before .before .before .before .before .ends-at .ensures) ∙ c .before .before .before .before .before .before .before .if1 .left) (rw (c .before .before .before .before .before .before .opens-content .ensures) at (c .before .if2 .taken)))
+    lexed-refused (c .refuse .ensures)
+    (block-low (now (a .text)) (a .k) (a .b) (a .g) (sym (c .before .before .before .before .before .before .before .before .ends-at .ensures) ∙ c .before .before .before .before .before .before .before .if1 .left)
+    (rw (c .before .before .before .before .before .before .opens-content .ensures) at (c .before .if2 .taken)))
 
 content-scalar-requires : tie.Need-content-scalar-requires
 content-scalar-requires c κs = search needs
@@ -40,7 +43,9 @@ same-length-2 c = search needs
 returns-3 : tie.Need-returns-3
 returns-3 c =
     let a = c .before .before .before .before .before .before .before .before .before .before .before .before .before .before .before .before .args in
-    lexed-as (c .before .before .content-scalar .ensures) (block-some (now (a .text)) (a .k) (a .b) (a .g) (sym (c .before .before .before .before .before .before .before .before .before .before .before .ends-at .ensures) ∙ c .before .before .before .before .before .before .before .before .before .before .if1 .left) (rw (c .before .before .before .before .before .before .before .before .before .opens-content .ensures) at (c .before .before .before .before .if2 .left)))
+    lexed-as (c .before .before .content-scalar .ensures)
+    (block-some (now (a .text)) (a .k) (a .b) (a .g) (sym (c .before .before .before .before .before .before .before .before .before .before .before .ends-at .ensures) ∙ c .before .before .before .before .before .before .before .before .before .before .if1 .left)
+    (rw (c .before .before .before .before .before .before .before .before .before .opens-content .ensures) at (c .before .before .before .before .if2 .left)))
 
 pub block-content-spec : {M : Type 1} → statement M
 block-content-spec =

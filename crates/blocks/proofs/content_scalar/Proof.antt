@@ -28,7 +28,11 @@ same-length c = search needs
 returns : tie.Need-returns
 returns c =
     let a = c .before .before .before .before .before .before .before .before .before .before .before .before .before .before .before .before .before .before .args in
-    content-lexed (a .k) (a .b) (a .g) (c .scalar .ensures) (c .before .before .before .before .before .before .before .before .before .before .before .before .read-content .ensures) (c .before .before .before .before .chomped .ensures) (rw (c .before .before .before .before .before .before .before .larger .ensures, c .before .before .before .before .before .before .before .before .ends-at .ensures)) (c .before .before .before .put-breaks .ensures)
+    content-lexed (a .k) (a .b) (a .g) (c .scalar .ensures)
+    (c .before .before .before .before .before .before .before .before .before .before .before .before .read-content .ensures)
+    (c .before .before .before .before .chomped .ensures)
+    (rw (c .before .before .before .before .before .before .before .larger .ensures, c .before .before .before .before .before .before .before .before .ends-at .ensures))
+    (c .before .before .before .put-breaks .ensures)
 
 pub content-scalar-spec : {M : Type 1} → statement M
 content-scalar-spec =

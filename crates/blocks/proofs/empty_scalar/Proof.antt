@@ -19,8 +19,9 @@ same-length c = search needs
 
 returns : tie.Need-returns
 returns c =
-    let a = c .before .before .before .before .before .before .before .before .before .before .before .before .before .args in
-    empty-lexed (a .k) (a .b) (a .g) (c .scalar .ensures) (c .before .before .before .before .before .before .before .before .before .before .before .before .before .pre) (c .before .before .before .before .no-content .ensures) refl (c .before .before .before .put-breaks .ensures)
+    λ text s.
+    let a = c .before .before .before .before .before .before .before .before .before .before .before .before .args in
+    empty-lexed (a .k) (a .b) (a .g) (c .scalar .ensures) s (c .before .before .before .before .no-content .ensures) refl (c .before .before .before .put-breaks .ensures)
 
 pub empty-scalar-spec : {M : Type 1} → statement M
 empty-scalar-spec =

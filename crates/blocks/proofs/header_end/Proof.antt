@@ -27,7 +27,8 @@ same-length c = search needs
 returns : tie.Need-returns
 returns c =
     let a = c .before .before .before .before .before .before .before .before .before .before .args in
-    lexed-as (c .before .before .under-header .ensures) (ap (under-header (a .k) (header-of (now (a .text)) (a .h))) (c .before .before .before .before .skip-break .ensures .same) ∙ end-right (a .k) (header-of (now (a .text)) (a .h)) (view (now (a .text)) (a .e)) (sym (c .before .before .before .before .before .before .is-breakz .ensures ∙ ap isBreakz (c .before .before .before .before .before .before .before .look .ensures)) ∙ c .before .before .before .before .before .if1 .taken))
+    lexed-as (c .before .before .under-header .ensures)
+    (ap (under-header (a .k) (header-of (now (a .text)) (a .h))) (c .before .before .before .before .skip-break .ensures .same) ∙ end-right (a .k) (header-of (now (a .text)) (a .h)) (view (now (a .text)) (a .e)) (sym (c .before .before .before .before .before .before .is-breakz .ensures ∙ ap isBreakz (c .before .before .before .before .before .before .before .look .ensures)) ∙ c .before .before .before .before .before .if1 .taken))
 
 refuse-requires : tie.Need-refuse-requires
 refuse-requires c κs = search needs
@@ -35,7 +36,8 @@ refuse-requires c κs = search needs
 returns-2 : tie.Need-returns-2
 returns-2 c =
     let a = c .before .before .before .before .before .before .before .args in
-    lexed-refused (c .refuse .ensures) (end-wrong (a .k) (header-of (now (a .text)) (a .h)) (view (now (a .text)) (a .e)) (sym (c .before .before .before .is-breakz .ensures ∙ ap isBreakz (c .before .before .before .before .look .ensures)) ∙ c .before .before .if1 .left))
+    lexed-refused (c .refuse .ensures)
+    (end-wrong (a .k) (header-of (now (a .text)) (a .h)) (view (now (a .text)) (a .e)) (sym (c .before .before .before .is-breakz .ensures ∙ ap isBreakz (c .before .before .before .before .look .ensures)) ∙ c .before .before .if1 .left))
 
 pub header-end-spec : {M : Type 1} → statement M
 header-end-spec =

@@ -21,16 +21,25 @@ enum-known-h : tie.Need-enum-known-h
 enum-known-h c = search needs
 
 after-header-requires : tie.Need-after-header-requires
-after-header-requires c κs = ready-first (c .before .before .before .before .before .before .before .before .before .args .k) (c .before .before .before .before .before .before .before .before .before .pre .0) (c .before .before .before .before .before .before .before .before .before .pre .1) (c .before .before .before .before .before .skip-blank .ensures) (c .before .before .before .before .indicators .ensures) (c .before .before .h .given .1)
+after-header-requires c κs =
+    ready-first (c .before .before .before .before .before .before .before .before .before .args .k)
+    (c .before .before .before .before .before .before .before .before .before .pre .0)
+    (c .before .before .before .before .before .before .before .before .before .pre .1)
+    (c .before .before .before .before .before .skip-blank .ensures) (c .before .before .before .before .indicators .ensures)
+    (c .before .before .h .given .1)
 
 returns : tie.Need-returns
-returns c = lexed-refused (c .refuse .ensures) (scan-zero (c .before .before .before .before .before .before .before .before .args .k) (first-moves (c .before .before .before .before .before .before .before .before .pre .0) (c .before .before .before .before .skip-blank .ensures)) (c .before .before .before .indicators .ensures) (c .before .enum-told .given .1))
+returns c =
+    lexed-refused (c .refuse .ensures)
+    (scan-zero (c .before .before .before .before .before .before .before .before .args .k) (first-moves (c .before .before .before .before .before .before .before .before .pre .0) (c .before .before .before .before .skip-blank .ensures)) (c .before .before .before .indicators .ensures) (c .before .enum-told .given .1))
 
 same-length : tie.Need-same-length
 same-length c = search needs
 
 returns-2 : tie.Need-returns-2
-returns-2 c = lexed-as (c .before .before .after-header .ensures) (scan-header (c .before .before .before .before .before .before .before .before .before .before .before .before .args .k) (first-moves (c .before .before .before .before .before .before .before .before .before .before .before .before .pre .0) (c .before .before .before .before .before .before .before .before .skip-blank .ensures)) (c .before .before .before .before .before .before .before .indicators .ensures) (c .before .before .before .before .before .h .given .1))
+returns-2 c =
+    lexed-as (c .before .before .after-header .ensures)
+    (scan-header (c .before .before .before .before .before .before .before .before .before .before .before .before .args .k) (first-moves (c .before .before .before .before .before .before .before .before .before .before .before .before .pre .0) (c .before .before .before .before .before .before .before .before .skip-blank .ensures)) (c .before .before .before .before .before .before .before .indicators .ensures) (c .before .before .before .before .before .h .given .1))
 
 pub read-block-spec : {M : Type 1} → statement M
 read-block-spec =

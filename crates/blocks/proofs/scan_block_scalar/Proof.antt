@@ -14,7 +14,9 @@ same-length : tie.Need-same-length
 same-length c = search needs
 
 returns : tie.Need-returns
-returns c = lexes-cleared _ _ (c .before .before .before .before .before .before .read-block .ensures) (c .before .before .clear-refused .ensures) (c .before .before .before .before .before .before .read-block .kept .1 .1 .0)
+returns c =
+    lexes-cleared _ _ (c .before .before .before .before .before .before .read-block .ensures) (c .before .before .clear-refused .ensures)
+    (c .before .before .before .before .before .before .read-block .kept .1 .1 .0)
 
 pub scan-block-scalar-spec : {M : Type 1} → statement M
 scan-block-scalar-spec =

@@ -20,7 +20,8 @@ refuse-requires c κs = search needs
 returns : tie.Need-returns
 returns c =
     let a = c .before .before .before .before .before .before .args in
-    lexed-refused (c .refuse .ensures) (under-tab (a .k) (header-of (now (a .text)) (a .h)) (view (now (a .text)) (a .q)) (eq-at (now (a .text)) (a .q .at) _ (c .before .before .before .byte .ensures) tab tt ∙ eq-eqb _ tab (c .before .before .if1 .taken)))
+    lexed-refused (c .refuse .ensures)
+    (under-tab (a .k) (header-of (now (a .text)) (a .h)) (view (now (a .text)) (a .q)) (eq-at (now (a .text)) (a .q .at) _ (c .before .before .before .byte .ensures) tab tt ∙ eq-eqb _ tab (c .before .before .if1 .taken)))
 
 content-column-requires : tie.Need-content-column-requires
 content-column-requires c κs = search needs
@@ -29,7 +30,11 @@ skip-margin-requires : tie.Need-skip-margin-requires
 skip-margin-requires c κs = search needs
 
 block-content-requires : tie.Need-block-content-requires
-block-content-requires c κs = settles-first (record { literal = c .before .before .before .before .before .before .before .args .k .literal; chomping = c .before .before .before .before .before .before .before .args .h .chomping; column = c .before .before .content-column .result }) (c .before .skip-margin .ensures) (c .before .before .before .before .before .before .before .pre .some) (c .before .before .before .before .before .before .before .pre .short)
+block-content-requires c κs =
+    settles-first
+    (record { literal = c .before .before .before .before .before .before .before .args .k .literal; chomping = c .before .before .before .before .before .before .before .args .h .chomping; column = c .before .before .content-column .result })
+    (c .before .skip-margin .ensures) (c .before .before .before .before .before .before .before .pre .some)
+    (c .before .before .before .before .before .before .before .pre .short)
 
 same-length : tie.Need-same-length
 same-length c = search needs
@@ -37,7 +42,8 @@ same-length c = search needs
 returns-2 : tie.Need-returns-2
 returns-2 c =
     let a = c .before .before .before .before .before .before .before .before .before .before .args in
-    lexed-as (c .before .before .block-content .ensures) (under-content (a .k) (a .h) (eq-at (now (a .text)) (a .q .at) _ (c .before .before .before .before .before .before .before .byte .ensures) tab tt ∙ ne-eqb _ tab (c .before .before .before .before .before .before .if1 .left)) (c .before .before .before .before .before .content-column .ensures) (c .before .before .before .before .skip-margin .ensures))
+    lexed-as (c .before .before .block-content .ensures)
+    (under-content (a .k) (a .h) (eq-at (now (a .text)) (a .q .at) _ (c .before .before .before .before .before .before .before .byte .ensures) tab tt ∙ ne-eqb _ tab (c .before .before .before .before .before .before .if1 .left)) (c .before .before .before .before .before .content-column .ensures) (c .before .before .before .before .skip-margin .ensures))
 
 pub under-header-spec : {M : Type 1} → statement M
 under-header-spec =

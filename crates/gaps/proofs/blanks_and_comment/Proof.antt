@@ -23,7 +23,9 @@ abbrev B : Type 0
 B = tie.After-is-blank
 
 blank : (c : B) → isBlank (peek (chars (drop (c .before .before .before .args .start .at) (now (c .before .before .before .args .text)))) 0) ≡ c .is-blank .result
-blank c = ascii-at (now (c .before .before .before .args .text)) (c .before .before .before .args .start .at) _ (c .before .byte .ensures) blank-ascii ∙ sym (c .is-blank .ensures)
+blank c =
+    ascii-at (now (c .before .before .before .args .text)) (c .before .before .before .args .start .at) _ (c .before .byte .ensures) blank-ascii
+    ∙ sym (c .is-blank .ensures)
 
 byte-requires : tie.Need-byte-requires
 byte-requires c κs = search needs
@@ -42,7 +44,9 @@ byte-requires-2 c κs = search needs
 
 returns : tie.Need-returns
 unfolding blanks-and-comment
-returns c = reaches-to refl (c .before .before .skip-blanks .ensures) (comment-none _ _ (look-at '#' (c .before .before .skip-blanks .ensures) (c .before .byte2 .ensures) tt ∙ ne-eqb _ '#' (c .if1 .taken)))
+returns c =
+    reaches-to refl (c .before .before .skip-blanks .ensures)
+    (comment-none _ _ (look-at '#' (c .before .before .skip-blanks .ensures) (c .before .byte2 .ensures) tt ∙ ne-eqb _ '#' (c .if1 .taken)))
 
 to-break-requires : tie.Need-to-break-requires
 to-break-requires c κs = search needs

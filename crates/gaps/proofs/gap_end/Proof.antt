@@ -41,18 +41,24 @@ ended-requires-4 c κs = search needs
 
 returns : tie.Need-returns
 unfolding isLeading on-other
-returns c = λ flow. skips-to (c .ended .ensures) (c .before .before .before .before .pre .0) (gap-ends flow _ Leading true _ _ (c .before .enum-told .given .1) refl refl (c .before .before .before .before .pre .1))
+returns c =
+    λ flow. skips-to (c .ended .ensures) (c .before .before .before .before .pre .0)
+    (gap-ends flow _ Leading true _ _ (c .before .enum-told .given .1) refl refl (c .before .before .before .before .pre .1))
 
 returns-2 : tie.Need-returns-2
 returns-2 c = λ flow. rw (c .before .before .b .given .1) (c .tabbed-end .ensures flow)
 
 returns-3 : tie.Need-returns-3
 unfolding isLeading on-other
-returns-3 c = λ flow. skips-to (c .ended2 .ensures) (c .before .before .before .before .pre .0) (gap-ends flow _ Spaced false _ _ (c .before .enum-told2 .given .1) refl refl (c .before .before .before .before .pre .1))
+returns-3 c =
+    λ flow. skips-to (c .ended2 .ensures) (c .before .before .before .before .pre .0)
+    (gap-ends flow _ Spaced false _ _ (c .before .enum-told2 .given .1) refl refl (c .before .before .before .before .pre .1))
 
 returns-4 : tie.Need-returns-4
 unfolding isLeading on-other
-returns-4 c = λ flow. skips-to (c .ended3 .ensures) (c .before .before .before .before .pre .0) (gap-ends flow _ AfterText false _ _ (c .before .enum-told3 .given .1) refl refl (c .before .before .before .before .pre .1))
+returns-4 c =
+    λ flow. skips-to (c .ended3 .ensures) (c .before .before .before .before .pre .0)
+    (gap-ends flow _ AfterText false _ _ (c .before .enum-told3 .given .1) refl refl (c .before .before .before .before .pre .1))
 
 returns-5 : tie.Need-returns-5
 returns-5 c = absurd (rw (c .before .enum-told4 .given .1) at (c .before .before .before .before .pre .2))

@@ -33,10 +33,16 @@ loop-less : tie.Need-loop-less Inv-loop μ-loop
 loop-less c = search needs
 
 loop-again : tie.Need-loop-again Inv-loop μ-loop
-loop-again c = let t = low-turn (now (c .before .before .before .before .before .before .args .text)) (c .before .before .before .before .loop .i) (c .before .before .before .loop-test .taken) (sym (c .before .is-low .ensures) ∙ c .if1 .taken) in search needs
+loop-again c =
+    let t = low-turn (now (c .before .before .before .before .before .before .args .text)) (c .before .before .before .before .loop .i)
+    (c .before .before .before .loop-test .taken) (sym (c .before .is-low .ensures) ∙ c .if1 .taken) in
+    search needs
 
 returns : tie.Need-returns Inv-loop μ-loop
-returns c = let t = low-over (now (c .before .before .before .before .before .before .args .text)) (c .before .before .before .before .loop .i) (c .before .before .before .loop-test .taken) (sym (c .before .is-low .ensures) ∙ c .if1 .left) in search needs
+returns c =
+    let t = low-over (now (c .before .before .before .before .before .before .args .text)) (c .before .before .before .before .loop .i)
+    (c .before .before .before .loop-test .taken) (sym (c .before .is-low .ensures) ∙ c .if1 .left) in
+    search needs
 
 returns-2 : tie.Need-returns-2 Inv-loop μ-loop
 returns-2 c = let t = low-past (now (c .before .before .before .args .text)) (c .before .loop .i) (c .loop-test .left) in search needs

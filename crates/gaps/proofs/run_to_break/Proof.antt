@@ -61,7 +61,8 @@ low-run-requires : tie.Need-low-run-requires Inv-loop μ-loop
 low-run-requires c κs = search needs
 
 skip-n-non-blank-requires : tie.Need-skip-n-non-blank-requires Inv-loop μ-loop
-skip-n-non-blank-requires c κs = (small (c .before .loop .inv .walks .stands) (search needs), low-few (c .low-run .ensures) (c .before .loop .inv .walks .stands))
+skip-n-non-blank-requires c κs =
+    (small (c .before .loop .inv .walks .stands) (search needs), low-few (c .low-run .ensures) (c .before .loop .inv .walks .stands))
 
 char-at-requires : tie.Need-char-at-requires Inv-loop μ-loop
 char-at-requires c κs = search needs
@@ -70,13 +71,17 @@ enum-told : tie.Need-enum-told Inv-loop μ-loop
 enum-told c = search needs
 
 returns : tie.Need-returns Inv-loop μ-loop
-returns c = spans-done (spanned (c .before .before)) (end-done _ _ (none-ill (Text (c .before .before)) (Here (c .before .before) .at) (sym (c .before .before .char-at .ensures) ∙ c .enum-told .given .1)))
+returns c =
+    spans-done (spanned (c .before .before))
+    (end-done _ _ (none-ill (Text (c .before .before)) (Here (c .before .before) .at) (sym (c .before .before .char-at .ensures) ∙ c .enum-told .given .1)))
 
 enum-told-2 : tie.Need-enum-told-2 Inv-loop μ-loop
 enum-told-2 c = search needs
 
 returns-2 : tie.Need-returns-2 Inv-loop μ-loop
-returns-2 c = spans-done (spanned (c .before .before)) (end-done _ _ (none-end (Text (c .before .before)) (Here (c .before .before) .at) (sym (c .before .before .char-at .ensures) ∙ c .enum-told2 .given .1)))
+returns-2 c =
+    spans-done (spanned (c .before .before))
+    (end-done _ _ (none-end (Text (c .before .before)) (Here (c .before .before) .at) (sym (c .before .before .char-at .ensures) ∙ c .enum-told2 .given .1)))
 
 enum-known-d : tie.Need-enum-known-d Inv-loop μ-loop
 enum-known-d c = search needs
@@ -94,7 +99,9 @@ loop-less : tie.Need-loop-less Inv-loop μ-loop
 loop-less c = rw (c .skip-non-blank .ensures) (omega (arith, char (c .before .before .before), onward (at-char (c .before .before .before))))
 
 loop-again : tie.Need-loop-again Inv-loop μ-loop
-loop-again c = rw (c .skip-non-blank .ensures) (spans-along (spanned (at-char (c .before .before .before))) _ 1 (reach-one (char (c .before .before .before))) (line-turn _ (char (c .before .before .before)) (sym (c .before .before .is-break .ensures) ∙ c .before .if1 .left)))
+loop-again c =
+    rw (c .skip-non-blank .ensures)
+    (spans-along (spanned (at-char (c .before .before .before))) _ 1 (reach-one (char (c .before .before .before))) (line-turn _ (char (c .before .before .before)) (sym (c .before .before .is-break .ensures) ∙ c .before .if1 .left)))
 
 pub run-to-break-spec : {M : Type 1} → statement M
 run-to-break-spec =

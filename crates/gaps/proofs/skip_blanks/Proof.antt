@@ -53,10 +53,14 @@ loop-less : tie.Need-loop-less Inv-loop μ-loop
 loop-less c = rw (c .skip-blank .ensures) (omega (arith, char (c .before) .within))
 
 loop-again : tie.Need-loop-again Inv-loop μ-loop
-loop-again c = rw (c .skip-blank .ensures) (walks-along (c .before .before .before .before .loop .inv) 1 1 (reach-one (char (c .before))) (blank-turn _ (char (c .before)) (blank (c .before))))
+loop-again c =
+    rw (c .skip-blank .ensures)
+    (walks-along (c .before .before .before .before .loop .inv) 1 1 (reach-one (char (c .before))) (blank-turn _ (char (c .before)) (blank (c .before))))
 
 returns : tie.Need-returns Inv-loop μ-loop
-returns c = walks-done (c .before .before .before .loop .inv) (blank-done _ _ (ascii-at (now (c .before .before .before .before .before .args .text)) (c .before .before .before .loop .p .at) _ (c .before .before .byte .ensures) blank-ascii ∙ sym (c .before .is-blank .ensures) ∙ c .if1 .left))
+returns c =
+    walks-done (c .before .before .before .loop .inv)
+    (blank-done _ _ (ascii-at (now (c .before .before .before .before .before .args .text)) (c .before .before .before .loop .p .at) _ (c .before .before .byte .ensures) blank-ascii ∙ sym (c .before .is-blank .ensures) ∙ c .if1 .left))
 
 pub skip-blanks-spec : {M : Type 1} → statement M
 skip-blanks-spec =

@@ -27,7 +27,8 @@ use Rattle.gaps.proofs.skip_gap.Statement.{statement}
 use Rattle.gaps.proofs.skip_gap.Tie as tie
 
 abbrev Inv-loop : tie.InvT-loop
-Inv-loop text flow allowed leads p₀ b₀ ok₀ p b ok = Walks text p₀ p (gap-from flow allowed (pick leads Leading AfterText) (view text p₀)) (gap-from flow ok b (view text p)) × Open b
+Inv-loop text flow allowed leads p₀ b₀ ok₀ p b ok =
+    Walks text p₀ p (gap-from flow allowed (pick leads Leading AfterText) (view text p₀)) (gap-from flow ok b (view text p)) × Open b
 
 abbrev μ-loop : tie.MeasureT-loop
 μ-loop text flow allowed leads p₀ b₀ ok₀ p b ok = length text - p .at
@@ -57,7 +58,9 @@ abbrev Break : Type 0
 Break = tie.After-break-length Inv-loop μ-loop
 
 break : (c : Break) → BreakAt (Text (c .before .before .before .before .before)) (Here (c .before .before .before .before .before)) (c .break-length .result)
-break c = break-at (c .before .before .before .before .before .before .loop .inv .0 .stands) (c .before .before .before .before .before .byte .ensures) (sym (c .before .before .is-break .ensures) ∙ c .before .if2 .taken) (c .break-length .ensures)
+break c =
+    break-at (c .before .before .before .before .before .before .loop .inv .0 .stands) (c .before .before .before .before .before .byte .ensures)
+    (sym (c .before .before .is-break .ensures) ∙ c .before .if2 .taken) (c .break-length .ensures)
 
 -- it is '#'
 abbrev Hash : Type 0
@@ -119,7 +122,8 @@ loop-less-2 c = let x = break (c .before) in rw (c .skip-linebreak .ensures) (om
 loop-again-2 : tie.Need-loop-again-2 Inv-loop μ-loop
 loop-again-2 c =
     let x = break (c .before) in
-    rw (c .skip-linebreak .ensures) (walks-move (c .before .before .before .before .before .before .before .loop .inv .0) (x .moves) (gap-line _ _ (c .before .before .before .before .before .before .before .loop .b) x), tt)
+    rw (c .skip-linebreak .ensures)
+    (walks-move (c .before .before .before .before .before .before .before .loop .inv .0) (x .moves) (gap-line _ _ (c .before .before .before .before .before .before .before .loop .b) x), tt)
 
 gap-end-requires : tie.Need-gap-end-requires Inv-loop μ-loop
 gap-end-requires c κs =
@@ -138,7 +142,8 @@ wrong-requires c κs = search needs
 
 returns-2 : tie.Need-returns-2 Inv-loop μ-loop
 returns-2 c =
-    skips-from (c .before .before .before .before .before .before .before .before .before .before .loop .inv .0) (skips-refused (c .wrong .ensures) (gap-wrong _ _ _ _ (hash-char (c .before .before .before .before)) (c .before .before .enum-told .given .1)))
+    skips-from (c .before .before .before .before .before .before .before .before .before .before .loop .inv .0)
+    (skips-refused (c .wrong .ensures) (gap-wrong _ _ _ _ (hash-char (c .before .before .before .before)) (c .before .before .enum-told .given .1)))
 
 to-break-requires : tie.Need-to-break-requires Inv-loop μ-loop
 to-break-requires c κs = c .before .before .before .before .before .before .before .loop .inv .0 .stands

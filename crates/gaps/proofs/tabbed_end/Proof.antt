@@ -30,13 +30,19 @@ ended-requires-2 : tie.Need-ended-requires-2
 ended-requires-2 c κs = search needs
 
 returns : tie.Need-returns
-returns c = λ flow. skips-refused (c .wrong .ensures) (gap-tabbed flow _ _ _ _ _ _ (char-at (now (c .before .before .before .before .before .args .text)) (c .before .before .before .before .before .args .p .at) _ _ (sym (c .before .before .before .char-at .ensures) ∙ c .before .enum-told .given .1) .next) (c .before .before .before .before .before .pre .1))
+returns c =
+    λ flow. skips-refused (c .wrong .ensures)
+    (gap-tabbed flow _ _ _ _ _ _ (char-at (now (c .before .before .before .before .before .args .text)) (c .before .before .before .before .before .args .p .at) _ _ (sym (c .before .before .before .char-at .ensures) ∙ c .before .enum-told .given .1) .next) (c .before .before .before .before .before .pre .1))
 
 returns-2 : tie.Need-returns-2
-returns-2 c = λ flow. skips-to (c .ended .ensures) (c .before .before .before .before .before .pre .0) (gap-nothing flow _ _ _ _ (none-ill (now (c .before .before .before .before .before .args .text)) (c .before .before .before .before .before .args .p .at) (sym (c .before .before .before .char-at .ensures) ∙ c .before .enum-told2 .given .1)))
+returns-2 c =
+    λ flow. skips-to (c .ended .ensures) (c .before .before .before .before .before .pre .0)
+    (gap-nothing flow _ _ _ _ (none-ill (now (c .before .before .before .before .before .args .text)) (c .before .before .before .before .before .args .p .at) (sym (c .before .before .before .char-at .ensures) ∙ c .before .enum-told2 .given .1)))
 
 returns-3 : tie.Need-returns-3
-returns-3 c = λ flow. skips-to (c .ended2 .ensures) (c .before .before .before .before .before .pre .0) (gap-nothing flow _ _ _ _ (none-end (now (c .before .before .before .before .before .args .text)) (c .before .before .before .before .before .args .p .at) (sym (c .before .before .before .char-at .ensures) ∙ c .before .enum-told3 .given .1)))
+returns-3 c =
+    λ flow. skips-to (c .ended2 .ensures) (c .before .before .before .before .before .pre .0)
+    (gap-nothing flow _ _ _ _ (none-end (now (c .before .before .before .before .before .args .text)) (c .before .before .before .before .before .args .p .at) (sym (c .before .before .before .char-at .ensures) ∙ c .before .enum-told3 .given .1)))
 
 pub tabbed-end-spec : {M : Type 1} → statement M
 tabbed-end-spec =

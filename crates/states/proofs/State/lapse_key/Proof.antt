@@ -27,19 +27,31 @@ same-length : tie.Need-same-length
 same-length c = search needs
 
 returns-2 : tie.Need-returns-2
-returns-2 c = let a = c .before .before .before .before .before .before .before .before .before .before .before .before .before .before .args in lapses-stale (now (a .frames)) (a .self) (c .before .before .before .before .before .before .before .before .before .before .before .if1 .left) _ _ _ (sym (c .before .before .before .before .before .before .before .before .before .key .ensures) ∙ c .before .before .before .before .before .before .before .k .given .1) (sym (c .before .before .before .before .before .is-stale .ensures) ∙ c .before .before .before .before .if2 .taken) (c .before .before .remove-key .ensures)
+returns-2 c =
+    let s = c .before .before .before .before .before in
+    let k = s .before .before .before .before in
+    let b = k .before .before .before .before .before in
+    lapses-stale (now (b .args .frames)) (b .args .self) (k .before .before .if1 .left) _ _ _ (sym (k .key .ensures) ∙ s .before .before .k .given .1)
+    (sym (s .is-stale .ensures) ∙ c .before .before .before .before .if2 .taken) (c .before .before .remove-key .ensures)
 
 same-length-2 : tie.Need-same-length-2
 same-length-2 c = search needs
 
 returns-3 : tie.Need-returns-3
-returns-3 c = let a = c .before .before .before .before .before .before .before .args in lapses-none (now (a .frames)) (a .self) (c .before .before .before .before .if1 .left) (sym (c .before .before .key .ensures) ∙ c .enum-told .given .1)
+returns-3 c =
+    let k = c .before .before in
+    let b = k .before .before .before .before .before in
+    lapses-none (now (b .args .frames)) (b .args .self) (k .before .before .if1 .left) (sym (k .key .ensures) ∙ c .enum-told .given .1)
 
 same-length-3 : tie.Need-same-length-3
 same-length-3 c = search needs
 
 returns-4 : tie.Need-returns-4
-returns-4 c = let a = c .before .before .before .before .before .before .before .before .before .before .args in lapses-fresh (now (a .frames)) (a .self) (c .before .before .before .before .before .before .before .if1 .left) _ _ _ (sym (c .before .before .before .before .before .key .ensures) ∙ c .before .before .before .k .given .1) (sym (c .before .is-stale .ensures) ∙ c .if2 .left)
+returns-4 c =
+    let k = c .before .before .before .before .before in
+    let b = k .before .before .before .before .before in
+    lapses-fresh (now (b .args .frames)) (b .args .self) (k .before .before .if1 .left) _ _ _ (sym (k .key .ensures) ∙ c .before .before .before .k .given .1)
+    (sym (c .before .is-stale .ensures) ∙ c .if2 .left)
 
 pub lapse-key-spec : {M : Type 1} → statement M
 lapse-key-spec =

@@ -44,7 +44,7 @@ skip-blank-requires : tie.Need-skip-blank-requires
 skip-blank-requires c κs = search needs
 
 uri-run-requires : tie.Need-uri-run-requires
-uri-run-requires c κs = 
+uri-run-requires c κs =
     let h = c .before .before .before .before .before .before .before .before .before .before .pre .0 in
     (rw (c .before .skip-blank .ensures) (stands-suffix h (c .before .before .before .before .before .before .before .before .before .before .pre .1)), omega (arith, h .tagged .stands, h .name .moves .stands))
 
@@ -61,7 +61,7 @@ same-length : tie.Need-same-length
 same-length c = search needs
 
 returns : tie.Need-returns
-returns c = 
+returns c =
     let w = c .before .before .before .before .before .before .before in
     handled-none (begin w .pre .0) (begin w .pre .1) (suffix-written w) (copied w) (c .before .before .before .r2 .given .1) (c .before .if1 .taken) (c .wrong .ensures)
 
@@ -72,7 +72,7 @@ same-length-2 : tie.Need-same-length-2
 same-length-2 c = search needs
 
 returns-2 : tie.Need-returns-2
-returns-2 c = 
+returns-2 c =
     let w = c .before .before .before .before .before in
     handled-refused (begin w .pre .0) (begin w .pre .1) (suffix-written w) (copied w) (c .before .r .given .1) refl
 
@@ -80,7 +80,7 @@ same-length-3 : tie.Need-same-length-3
 same-length-3 c = search needs
 
 returns-3 : tie.Need-returns-3
-returns-3 c = 
+returns-3 c =
     let w = c .before .before .before .before .before .before in
     handled-some (begin w .pre .0) (begin w .pre .1) (suffix-written w) (copied w) (c .before .before .r2 .given .1) (c .if1 .left) refl
 

@@ -34,12 +34,12 @@ same-length : tie.Need-same-length
 same-length c = search needs
 
 returns : tie.Need-returns
-returns c = 
+returns c =
     let w = c .before .before .before .before .before .before in
     primary-alone (begin w .pre) (copied w) (w .uri-run .ensures) (c .before .before .r2 .given .1) (c .if1 .taken) refl
 
 sub-t19 : tie.Need-sub-t19
-sub-t19 c = 
+sub-t19 c =
     let w = c .before .before .before .before .before .before in
     let t = ran (w .uri-run .ensures) (c .before .before .r2 .given .1) in
     omega (arith, t .next, begin w .pre .name .moves .onward)
@@ -48,7 +48,7 @@ same-length-2 : tie.Need-same-length-2
 same-length-2 c = search needs
 
 returns-2 : tie.Need-returns-2
-returns-2 c = 
+returns-2 c =
     let w = c .before .before .before .before .before in
     primary-refused (begin w .pre) (copied w) (w .uri-run .ensures) (c .before .r .given .1) refl
 
@@ -56,7 +56,7 @@ same-length-3 : tie.Need-same-length-3
 same-length-3 c = search needs
 
 returns-3 : tie.Need-returns-3
-returns-3 c = 
+returns-3 c =
     let w = c .before .before .before .before .before .before in
     primary-some (begin w .pre) (copied w) (w .uri-run .ensures) (c .before .before .r2 .given .1) (c .if1 .left) refl
 

@@ -29,7 +29,7 @@ word-requires : tie.Need-word-requires
 word-requires c κs = search needs
 
 add-text-at : tie.Need-add-text-at
-add-text-at c = 
+add-text-at c =
     let k = laid-got (c .before .before .before .before .before .before .before .before .before .before .tag-texts .ensures) (c .before .before .before .before .before .before .t2 .given .1) .2 in
     omega (arith, c .word .ensures, k .few, k .stands, c .before .before .before .before .before .before .before .before .before .before .before .before .before .before .pre .0 .given)
 
@@ -43,7 +43,7 @@ same-length : tie.Need-same-length
 same-length c = search needs
 
 returns : tie.Need-returns
-returns c = 
+returns c =
     let w = c .before .before .before .before .before .before .before .before .before .before .before .before in
     tag-ended _ (c .before .before .before .before .before .before .before .before .before .before .before .before .before .before .before .before .pre .0) (w .tag-texts .ensures) (c .before .before .before .before .before .before .before .before .t2 .given .1) (c .before .before .before .before .before .before .look .ensures) (sym (c .before .before .before .before .before .ends-tag .ensures) ∙ c .before .before .before .before .if1 .taken)
     (c .before .before .before .text-at .ensures) (c .before .before .word .ensures) (c .before .text-at2 .ensures) (c .got .ensures)
@@ -61,7 +61,7 @@ same-length-3 : tie.Need-same-length-3
 same-length-3 c = search needs
 
 returns-3 : tie.Need-returns-3
-returns-3 c = 
+returns-3 c =
     tag-open _ (c .before .before .before .before .before .before .before .before .before .before .before .before .before .pre .0) (c .before .before .before .before .before .before .before .before .before .tag-texts .ensures) (c .before .before .before .before .before .t2 .given .1) (c .before .before .before .look .ensures) (sym (c .before .before .ends-tag .ensures) ∙ c .before .if1 .left) (c .refuse .ensures)
 
 pub read-tag-spec : {M : Type 1} → statement M

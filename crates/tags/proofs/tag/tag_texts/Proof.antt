@@ -43,7 +43,7 @@ same-length-2 : tie.Need-same-length-2
 same-length-2 c = search needs
 
 returns-2 : tie.Need-returns-2
-returns-2 c = 
+returns-2 c =
     let w = c .before .before .before .before .before .before in
     rw (tag-handled (begin w .pre) (w .before .before .before .byte .ensures) (w .before .before .if1 .left) (name-read w) (c .before .before .before .before .before .byte2 .ensures) (c .before .before .before .before .if2 .taken)) (c .before .before .handled .ensures)
 
@@ -54,7 +54,7 @@ same-length-3 : tie.Need-same-length-3
 same-length-3 c = search needs
 
 returns-3 : tie.Need-returns-3
-returns-3 c = 
+returns-3 c =
     let w = c .before .before .before .before .before .before in
     rw (tag-primary (begin w .pre) (w .before .before .before .byte .ensures) (w .before .before .if1 .left) (name-read w) (c .before .before .before .before .before .byte2 .ensures) (c .before .before .before .before .if2 .left)) (c .before .before .primary .ensures)
 

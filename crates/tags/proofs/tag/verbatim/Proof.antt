@@ -45,7 +45,7 @@ same-length : tie.Need-same-length
 same-length c = search needs
 
 returns : tie.Need-returns
-returns c = 
+returns c =
     let w = c .before .before .before .before .before .before .before .before in
     let b = c .before .before .byte in
     verbatim-closed (begin w .pre .0) (begin w .pre .1) (x-written w) (c .before .before .before .before .r2 .given .1) (eq-char _ _ (b .result) (b .ensures) '>' tt (c .before .if1 .taken))
@@ -58,7 +58,7 @@ same-length-2 : tie.Need-same-length-2
 same-length-2 c = search needs
 
 returns-2 : tie.Need-returns-2
-returns-2 c = 
+returns-2 c =
     let w = c .before .before .before .before .before in
     verbatim-refused (begin w .pre .0) (begin w .pre .1) (x-written w) (c .before .r .given .1) refl
 
@@ -66,7 +66,7 @@ same-length-3 : tie.Need-same-length-3
 same-length-3 c = search needs
 
 returns-3 : tie.Need-returns-3
-returns-3 c = 
+returns-3 c =
     let w = c .before .before .before .before .before .before .before .before in
     verbatim-open (begin w .pre .0) (begin w .pre .1) (x-written w) (c .before .before .before .before .r2 .given .1) (c .before .before .byte .ensures) (c .before .if1 .left) (c .wrong .ensures)
 

@@ -1,0 +1,3 @@
+// The header of a block scalar, and the margin before its content.
+pub mod header;
+pub mod margin;
