@@ -1,0 +1,6 @@
+pub mod Levels
+pub mod One
+pub mod Roll
+pub mod Block
+pub mod Colon
+pub mod Value

@@ -1,0 +1,18 @@
+use Rattle.values.specs.Value.{note-by}
+use Rattle.values.proofs.note_of.Statement.{statement}
+use Rattle.values.proofs.note_of.Tie as tie
+
+returns : tie.Need-returns
+unfolding note-by
+returns c = rw (c .if1 .taken)
+
+returns-2 : tie.Need-returns-2
+unfolding note-by
+returns-2 c = rw (c .before .if1 .left, c .if2 .taken)
+
+returns-3 : tie.Need-returns-3
+unfolding note-by
+returns-3 c = rw (c .before .if1 .left, c .if2 .left)
+
+pub note-of-spec : {M : Type 1} → statement M
+note-of-spec = tie.close (tie.spec returns returns-2 returns-3)
