@@ -14,3 +14,9 @@ pub mod Fits
 pub mod BlockFits
 pub mod EscapeFits
 pub mod TagFits
+pub mod Role
+pub mod Sizes
+pub mod EscapeSizes
+pub mod QuotedSizes
+pub mod BlockSizes
+pub mod TagSizes

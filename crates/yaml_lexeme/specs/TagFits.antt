@@ -95,7 +95,7 @@ version-number-fit start p = all-need _ 12 start _ (version-digits-fit start 0 0
 blanks-at-fit : (p : Place) → Fits p (blanks-at p)
 blanks-at-fit p = blanks-fit (p .mark) (p .rest)
 
-version-directive-fit : (start : Mark) (p : Place) → All Lexeme (Reads start p) (version-directive start p)
+pub version-directive-fit : (start : Mark) (p : Place) → All Lexeme (Reads start p) (version-directive start p)
 unfolding version-directive
 version-directive-fit start p =
     all-bind _ (version-number-fit start (blanks-at p))

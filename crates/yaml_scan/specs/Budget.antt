@@ -10,7 +10,6 @@ use borrow.Author.Tests.{ltb-false, ltb-true}
 use Rattle.yaml_text.specs.declared.Mark.{Mark}
 use Rattle.yaml_text.specs.Mark.{origin}
 use Rattle.yaml_text.specs.Refusal.{Read, got, refused}
-use Rattle.yaml_text.specs.Decode.{decode}
 use Rattle.yaml_text.specs.Test.{by-test}
 use Rattle.yaml_text.specs.All.{All, holds, not-read}
 use Rattle.yaml_text.specs.DecodeLaws.{Decodes, NoNul, decode-is}
@@ -23,7 +22,7 @@ use Rattle.yaml_scan.specs.Candidates.{Given, Placed, Sound, fresh, give
 use Rattle.yaml_scan.specs.Runs.{step-news}
 
 -- a case by what a step answers
-on-news : {P : News → Type 0} {r : Read News} (Q : Read News → Type 0) → All News P r → ((es : List Event) (s : State) → P (goes-on es s) → Q (got (goes-on es s)))
+pub on-news : {P : News → Type 0} {r : Read News} (Q : Read News → Type 0) → All News P r → ((es : List Event) (s : State) → P (goes-on es s) → Q (got (goes-on es s)))
     → ((es : List Event) → P (ends-with es) → Q (got (ends-with es))) → ((n : ℕ) (m : Mark) → Q (refused n m)) → Q r
 on-news {P} Q (holds {a = w} h) f g k = by-news w h
   where
@@ -72,16 +71,21 @@ pub scan-ends : (limits : Limits) (cs : List ℕ) → Ends (scan limits cs)
 unfolding scan
 scan-ends limits cs = after-events-end (put (empty-token StreamStart origin) ∷ []) (run limits (suc (length cs)) (begin cs)) (run-ends limits (suc (length cs)) (begin cs) (le-refl _))
 
-pub outcome-ends : (limits : Limits) (bytes : List ℕ) → Ends (outcome limits bytes)
+-- a text is scanned, or refused before
+pub outcome-by : (Q : Outcome → Type 0) (limits : Limits) (bytes : List ℕ) → ((cs : List ℕ) → Decodes 0 bytes cs → Q (scan limits cs))
+    → ((n : ℕ) (m : Mark) → Q (stopped n m)) → Q (outcome limits bytes)
 unfolding outcome
-outcome-ends limits bytes =
+outcome-by Q limits bytes f g =
     by-test (ltb (limits .bytes) (length bytes))
-    (λ e. rw (e, outcome) tt)
-    (λ e. rw (e, outcome) (by-decode (decode 0 origin bytes)))
+    (λ e. rw (e, outcome) (g 1 origin))
+    (λ e. rw (e, outcome) (by-decode (decode-is 0 origin bytes)))
   where
-    by-decode : (r : Read (List ℕ)) → Ends (elim r [ got cs ↦ scan limits cs | refused n m ↦ stopped n m ])
-    by-decode (got cs) = scan-ends limits cs
-    by-decode (refused n m) = tt
+    by-decode : {r : Read (List ℕ)} → All (List ℕ) (Decodes 0 bytes) r → Q (elim r [ got cs ↦ scan limits cs | refused n m ↦ stopped n m ])
+    by-decode (holds {a = cs} d) = f cs d
+    by-decode (not-read {n = n} {m = m}) = g n m
+
+pub outcome-ends : (limits : Limits) (bytes : List ℕ) → Ends (outcome limits bytes)
+outcome-ends limits bytes = outcome-by Ends limits bytes (λ cs _. scan-ends limits cs) (λ _ _. tt)
 
 -- so no answer is left without a verdict
 
@@ -138,12 +142,4 @@ scan-placed limits cs h =
     (run-placed limits (suc (length cs)) (fresh origin ∷ []) (begin cs) (begin-sound cs h))
 
 pub outcome-placed : (limits : Limits) (bytes : List ℕ) → PlacedIn [] (outcome limits bytes)
-unfolding outcome
-outcome-placed limits bytes =
-    by-test (ltb (limits .bytes) (length bytes))
-    (λ e. rw (e, outcome) tt)
-    (λ e. rw (e, outcome) (by-decode (decode-is 0 origin bytes)))
-  where
-    by-decode : {r : Read (List ℕ)} → All (List ℕ) (Decodes 0 bytes) r → PlacedIn [] (elim r [ got cs ↦ scan limits cs | refused n m ↦ stopped n m ])
-    by-decode (holds {a = cs} d) = scan-placed limits cs (d .no-nul)
-    by-decode not-read = tt
+outcome-placed limits bytes = outcome-by (PlacedIn []) limits bytes (λ cs d. scan-placed limits cs (d .no-nul)) (λ _ _. tt)

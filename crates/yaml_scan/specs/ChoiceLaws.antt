@@ -1,11 +1,11 @@
 -- K3: a choice tells what is there, and so what its fetch keeps.
 use Prim.Native.Nat.{_≤_, ℕ}
-use mathlib.Core.Bool.{Bool, _&&_, _||_, false, not, true}
+use mathlib.Core.Bool.{_&&_, _||_, false, not, true}
 use mathlib.Core.List.{List, [], _∷_}
 use mathlib.Core.Path.{_≡_, sym}
 use lib.Dec.{eqb, ltb}
 use lib.ListN.{length}
-use borrow.Author.Tests.{ne-eqb}
+use borrow.Author.Tests.{ne-eqb, not-true}
 use Rattle.yaml_text.specs.declared.Mark.{Mark}
 use Rattle.yaml_text.specs.Char.{'!', '%', '&', '*', '-', ':', '>', '?', '[', ']', '`', '|', at-sign, byte-order-mark, close-brace, comma, dot, double-quote, open-brace, single-quote}
 use Rattle.yaml_text.specs.Class.{among, isBlankOrBreakz, isBom, isFlow, isZ, peek}
@@ -26,17 +26,17 @@ use Rattle.yaml_scan.specs.Fetches.{Fetched, anchor-news, block-entry-ne
 -- what the fetch of a choice needs to know of the state
 abbrev pub Says : Choice → State → Type 0
 Says AtEnd s = Unit {0}
-Says AtDirective s = Unit {0}
-Says AtByteOrderMark s = Unit {0}
+Says AtDirective s = in-flow s ≡ false
+Says AtByteOrderMark s = in-flow s ≡ false
 Says BelowIndent s = Unit {0}
 Says Stray s = Unit {0}
 Says (AtMarker begins) s = 3 ≤ left (s .place)
 Says (Opens sequence) s = Unit {0}
 Says (Closes sequence) s = Unit {0}
 Says AtComma s = Unit {0}
-Says AtDash s = Unit {0}
-Says AtQuestion s = Unit {0}
-Says AtColon s = Unit {0}
+Says AtDash s = isBlankOrBreakz (peek (rest-of s) 1) ≡ true
+Says AtQuestion s = isBlankOrBreakz (peek (rest-of s) 1) ≡ true
+Says AtColon s = takes-colon s ≡ true
 Says AtTag s = Unit {0}
 Says AtPlain s = Unit {0}
 Says (AtAnchor alias) s = Unit {0}
@@ -52,18 +52,19 @@ marker-there m cs e =
     let h = both-true (eqb (m .col) 0) _ (both-true (eqb (m .col) 0 && (eqb c '-' || eqb c dot)) _ (g .0) .0) .1 in
     there (λ d. eqb d c) cs 2 (ne-eqb 0 c (λ z. true-false (sym (rw (← z) at h)))) (g .1)
 
-indicator-says : (s : State) (colon : Bool) (c n : ℕ) → Says (indicator (in-flow s) colon c n) s
+indicator-says : (s : State) (c : ℕ) → Says (indicator (in-flow s) (takes-colon s) c (peek (rest-of s) 1)) s
 unfolding indicator
-indicator-says s colon c n =
+indicator-says s c =
+    let n = peek (rest-of s) 1 in
     on-pick P (eqb c '[') (λ _. tt) λ _.
     on-pick P (eqb c open-brace) (λ _. tt) λ _.
     on-pick P (eqb c ']') (λ _. tt) λ _.
     on-pick P (eqb c close-brace) (λ _. tt) λ _.
     on-pick P (eqb c comma) (λ _. on-pick P (in-flow s) (λ _. tt) λ _. tt) λ _.
-    on-pick P (eqb c '-' && isBlankOrBreakz n) (λ _. tt) λ _.
-    on-pick P (eqb c '?' && isBlankOrBreakz n) (λ _. tt) λ _.
+    on-pick P (eqb c '-' && isBlankOrBreakz n) (λ e. both-true (eqb c '-') _ e .1) λ _.
+    on-pick P (eqb c '?' && isBlankOrBreakz n) (λ e. both-true (eqb c '?') _ e .1) λ _.
     on-pick P ((eqb c '-' || eqb c '?') && in-flow s && isFlow n) (λ _. tt) λ _.
-    on-pick P (eqb c ':' && colon) (λ _. tt) λ _.
+    on-pick P (eqb c ':' && takes-colon s) (λ e. both-true (eqb c ':') _ e .1) λ _.
     on-pick P (eqb c '*') (λ _. tt) λ _.
     on-pick P (eqb c '&') (λ _. tt) λ _.
     on-pick P (eqb c '!') (λ _. tt) λ _.
@@ -83,13 +84,16 @@ choice-says s =
     let outside = eqb (mark-of s .col) 0 && not (in-flow s) in
     on-pick P (isZ c) (λ _. tt) λ _.
     on-pick P (isMarker (mark-of s) (rest-of s)) (λ e. marker-there (mark-of s) (rest-of s) e) λ _.
-    on-pick P (outside && eqb c '%') (λ _. tt) λ _.
-    on-pick P (outside && isBom c) (λ _. tt) λ _.
+    on-pick P (outside && eqb c '%') (λ e. not-inside (both-true outside _ e .0)) λ _.
+    on-pick P (outside && isBom c) (λ e. not-inside (both-true outside _ e .0)) λ _.
     on-pick P (ltb (edge-of (mark-of s)) (s .indents .indent)) (λ _. tt) λ _.
-    indicator-says s (takes-colon s) c (peek (rest-of s) 1)
+    indicator-says s c
   where
     P : Choice → Type 0
     P k = Says k s
+
+    not-inside : (eqb (mark-of s .col) 0 && not (in-flow s)) ≡ true → in-flow s ≡ false
+    not-inside e = not-true (in-flow s) (both-true (eqb (mark-of s .col) 0) _ e .1)
 
 pub fetch-news : (gs : List Given) (limits : Limits) (c : Choice) (s : State) → Says c s → All News (Fetched gs s) (fetch limits c s)
 unfolding fetch

@@ -11,7 +11,7 @@ use Rattle.yaml_text.specs.declared.Mark.{Mark}
 use Rattle.yaml_text.specs.Mark.{Place, here, over-bom, skip-by}
 use Rattle.yaml_text.specs.Refusal.{got}
 use Rattle.yaml_text.specs.Test.{by-pick, by-test, on-pick, true-false}
-use Rattle.yaml_text.specs.All.{All, all-any, all-bind, all-is, all-need, all-some, all-test, holds}
+use Rattle.yaml_text.specs.All.{All, all-any, all-bind, all-is, all-need, all-test, holds}
 use Rattle.yaml_text.specs.DecodeLaws.{NoNul, no-nul-drop}
 use Rattle.yaml_text.specs.PlaceLaws.{Fits, fits-no-nul, fits-refl, fits-trans, left, skip-on}
 use Rattle.yaml_lexeme.specs.Token.{BlockMappingStart, BlockSequenceStart, FlowMappingEnd, FlowMappingStart, Kind, Lexeme, Token, empty-token}
@@ -21,7 +21,8 @@ use Rattle.yaml_lexeme.specs.TagFits.{anchor-fit, directive-fit, tag-fit}
 use Rattle.yaml_scan.specs.declared.Candidate.{Candidate}
 use Rattle.yaml_scan.specs.declared.Candidate.the-variants.{Absent, Possible}
 use Rattle.yaml_scan.specs.declared.Level.{Level}
-use Rattle.yaml_scan.specs.Indent.{Indents, drop-non-ending, stack, top-ends}
+use Rattle.yaml_scan.specs.Indent.{Indents, drop-non-ending, top-ends}
+use Rattle.yaml_scan.specs.IndentLaws.{Same, same-refl, stack-same}
 use Rattle.yaml_scan.specs.Keys.{remove, set-key, top-key}
 use Rattle.yaml_scan.specs.declared.Limits.{Limits}
 use Rattle.yaml_scan.specs.State.{Event, News, State, allow, at-place, block-ends, counting, empty-if, ends-with, goes-on, in-flow, mark-of, on-level, put, put-before, puts, remove-key, save-key, unroll-to, with-indents}
@@ -30,9 +31,16 @@ use Rattle.yaml_scan.specs.Value.{before-key, begins-pair, fetch-block-e
 use Rattle.yaml_scan.specs.Choice.{after-marker, fetch-anchor, fetch-block-scalar, fetch-byte-order-mark, fetch-directive, fetch-document-indicator, fetch-flow-scalar, fetch-plain-scalar, fetch-stream-end, fetch-tag, forced, leave-blocks}
 use Rattle.yaml_scan.specs.Candidates.{AllKnown, EmptyAt, Fall, Free, Given, OnlyPuts, Placed, Ready, ReadyState, Sound, Tops, fall-less, fresh, given, given-length, known-more, known-next, late, note-at, noted-known, only-append, only-ends, only-if, only-one, only-placed, ready, stays-known, without-key, without-ready}
 
+-- behind the first character, at no later column
+abbrev pub behind-first : Place → Place
+behind-first p = here (over-bom (p .mark)) (drop 1 (p .rest))
+
+first-fit : (p : Place) → Fits (behind-first p) (skip-by 1 p)
+first-fit p = record { taken = 0; within = omega arith; rest-is = refl; index-is = omega arith; line-on = le-refl _; col-on = λ _. omega arith }
+
 -- from the state s, after the tokens gs
 abbrev pub Fetched : List Given → State → News → Type 0
-Fetched gs s (goes-on es t) = Fits (skip-by 1 (s .place)) (t .place) × (ReadyState gs s → Placed gs es × Sound (given gs es) t)
+Fetched gs s (goes-on es t) = Fits (behind-first (s .place)) (t .place) × (ReadyState gs s → Placed gs es × Sound (given gs es) t)
 Fetched gs s (ends-with es) = ReadyState gs s → Placed gs es
 
 -- what the events say, and the count, candidates and levels behind them
@@ -44,16 +52,20 @@ record Told (gs : List Given) (es : List Event) (n : ℕ) (ks : List Candidate) 
   ordered : Fall n ks
 
 -- behind them, at a place further on
-told-ready : {gs : List Given} {es : List Event} {n : ℕ} {ks : List Candidate} {ls : List Level} {q : Place} (p : Place) → Fits (skip-by 1 p) q → NoNul (p .rest)
+told-ready : {gs : List Given} {es : List Event} {n : ℕ} {ks : List Candidate} {ls : List Level} {q : Place} (p : Place) → Fits (behind-first p) q → NoNul (p .rest)
     → Told gs es n ks ls → Ready (given gs es) n ks ls q
 told-ready {gs} {es} p f r k =
     let e = given-length gs es in
     record { counted = omega arith; levelled = k .levelled; known = k .known; ordered = k .ordered; no-nul = fits-no-nul f (no-nul-drop 1 (p .rest) r) }
 
+said-behind : {gs : List Given} {s : State} {es : List Event} {t : State} → Fits (behind-first (s .place)) (t .place)
+    → (ReadyState gs s → Told gs es (t .count) (t .keys) (t .levels)) → All News (Fetched gs s) (got (goes-on es t))
+said-behind {gs} {s} {es} {t} f h =
+    let k : Fetched gs s (goes-on es t) = (f, λ r. (h r .placed, ready (told-ready (s .place) f (r .no-nul) (h r)))) in holds k
+
 said : {gs : List Given} {s : State} {es : List Event} {t : State} → Fits (skip-by 1 (s .place)) (t .place)
     → (ReadyState gs s → Told gs es (t .count) (t .keys) (t .levels)) → All News (Fetched gs s) (got (goes-on es t))
-said {gs} {s} {es} {t} f h =
-    let k : Fetched gs s (goes-on es t) = (f, λ r. (h r .placed, ready (told-ready (s .place) f (r .no-nul) (h r)))) in holds k
+said {s} f h = said-behind (fits-trans (first-fit (s .place)) f) h
 
 -- where tokens are given and the candidates stay
 kept : {gs : List Given} {n : ℕ} {ks : List Candidate} {ls : List Level} {p : Place} (es : List Event) → OnlyPuts es → Ready gs n ks ls p → Told gs es (n + puts es) ks ls
@@ -114,20 +126,20 @@ unfolding remove
 removed m Absent = holds refl
 removed m (Possible required n k) = all-need _ 41 m _ (holds refl)
 
-remove-key-is : (s : State) → All State (λ t. t ≡ without-key s) (remove-key s)
+pub remove-key-is : (s : State) → All State (λ t. t ≡ without-key s) (remove-key s)
 unfolding remove-key
 remove-key-is s = all-bind _ (removed (mark-of s) (top-key (s .keys))) (λ k e. holds (rw e))
 
-leave-blocks-is : (s : State) → All State (λ t. t ≡ without-key (with-indents (unroll-to 0 s .indents) s)) (leave-blocks s)
+pub leave-blocks-is : (s : State) → All State (λ t. t ≡ without-key (with-indents (unroll-to 0 s .indents) s)) (leave-blocks s)
 unfolding leave-blocks
 leave-blocks-is s = remove-key-is (with-indents (unroll-to 0 s .indents) s)
 
-stack-bracket-is : (limits : Limits) (s : State) → All State (λ t. (i : Indents) × (t ≡ with-indents i s)) (stack-bracket limits s)
+pub stack-bracket-is : (limits : Limits) (s : State) → All State (λ t. (i : Indents) × Same (s .indents) i × (t ≡ with-indents i s)) (stack-bracket limits s)
 unfolding stack-bracket
 stack-bracket-is limits s =
     by-test (not (in-flow s) && top-ends (s .indents .entries))
-    (λ e. rw (e, stack-bracket) (all-bind _ (all-any (stack (limits .entries) (mark-of s) (s .indents .indent + 1) false (s .indents))) (λ i _. holds (i, refl))))
-    (λ e. rw (e, stack-bracket) (holds (s .indents, refl)))
+    (λ e. rw (e, stack-bracket) (all-bind _ (stack-same (limits .entries) (mark-of s) (s .indents)) (λ i k. holds (i, k, refl))))
+    (λ e. rw (e, stack-bracket) (holds (s .indents, same-refl _, refl)))
 
 save-key-place : (s : State) → save-key s .place ≡ s .place
 unfolding save-key
@@ -135,17 +147,17 @@ save-key-place s = by-pick (λ (t : State). t .place ≡ s .place) (s .allowed) 
 
 -- brackets
 
-bracket-fit : (k : Kind) (p : Place) → All Lexeme (Reads (p .mark) (skip-by 1 p)) (scan-bracket k p)
+pub bracket-fit : (k : Kind) (p : Place) → All Lexeme (Reads (p .mark) (skip-by 1 p)) (scan-bracket k p)
 unfolding scan-bracket
 bracket-fit k p = all-bind _ (blanks-and-comment-fit (skip-by 1 p)) (λ e f. holds (record { onward = f; starts = refl }))
 
 pub flow-collection-start-news : (gs : List Given) (limits : Limits) (sequence : Bool) (s : State) → All News (Fetched gs s) (fetch-flow-collection-start limits sequence s)
 unfolding fetch-flow-collection-start
 flow-collection-start-news gs limits sequence s =
-    all-some _ (λ i. with-indents i (save-key s)) (stack-bracket-is limits (save-key s))
-    (λ i. all-need _ 28 _ _ (all-bind _ (bracket-fit _ (save-key s .place))
+    all-bind _ (stack-bracket-is limits (save-key s))
+    (λ t i. rw (i .2) (all-need _ 28 _ _ (all-bind _ (bracket-fit _ (save-key s .place))
     (λ l r. said (rw (save-key-place s) at (r .onward)) (λ h. let k = saved s (l .token) (rw (save-key-place s) at (r .starts)) h in
-    record { placed = k .placed; counted = k .counted; levelled = ap suc (k .levelled); known = (tt, k .known); ordered = k .ordered }))))
+    record { placed = k .placed; counted = k .counted; levelled = ap suc (k .levelled); known = (tt, k .known); ordered = k .ordered })))))
 
 closes-some : (sequence : Bool) (ls : List Level) → closes-level sequence ls ≡ true → 0 < length ls
 unfolding closes-level
@@ -247,7 +259,7 @@ abbrev behind-block : Lexeme → Indents → State → State
 behind-block l i s = counting (puts (put (l .token) ∷ [])) (at-place (l .place) true (allow true (with-indents i s)))
 
 -- where it starts elsewhere, its candidate's line is over
-block-sound : {gs : List Given} (s : State) (l : Lexeme) (i : Indents) → in-flow s ≡ false → Fits (skip-by 1 (s .place)) (l .place)
+block-sound : {gs : List Given} (s : State) (l : Lexeme) (i : Indents) → in-flow s ≡ false → Fits (behind-first (s .place)) (l .place)
     → (l .token .start ≡ mark-of s) ⊎ (mark-of s .line < l .place .mark .line) → ReadyState gs s → Sound (given gs (put (l .token) ∷ [])) (behind-block l i (save-key s))
 unfolding save-key in-flow top-key
 block-sound s l i e f (inl o) r = ready (told-ready (s .place) f (r .no-nul) (saved s (l .token) o r))
@@ -262,8 +274,8 @@ unfolding fetch-block-scalar Placed
 block-scalar-news gs literal s e =
     let i = drop-non-ending (s .indents .indent) (s .indents .entries) in
     all-bind _ (block-scalar-fit literal (i .indent) (s .place))
-    (λ l b. let k : Fetched gs s (goes-on (put (l .token) ∷ []) (behind-block l i (save-key s))) =
-    (b .onward, λ r. (tt, block-sound s l i e (b .onward) (b .starts (r .no-nul)) r)) in holds k)
+    (λ l b. let f = fits-trans (first-fit (s .place)) (b .onward) in
+    let k : Fetched gs s (goes-on (put (l .token) ∷ []) (behind-block l i (save-key s))) = (f, λ r. (tt, block-sound s l i e f (b .starts (r .no-nul)) r)) in holds k)
 
 -- outside every block
 
@@ -277,16 +289,13 @@ directive-news gs s =
     all-is _ (leave-blocks-is s) (all-bind _ (directive-fit (s .place))
     (λ l r. said (r .onward) (λ h. kept _ (only-last (unroll-to 0 s .ended) (mark-of s) (l .token)) (without-ready h))))
 
-bom-fit : (p : Place) → Fits (skip-by 1 p) (here (over-bom (p .mark)) (drop 1 (p .rest)))
-bom-fit p = record { taken = 0; within = omega arith; rest-is = refl; index-is = omega arith; line-on = le-refl _ }
-
 pub byte-order-mark-news : (gs : List Given) (s : State) → All News (Fetched gs s) (fetch-byte-order-mark s)
 unfolding fetch-byte-order-mark
 byte-order-mark-news gs s =
     all-is _ (leave-blocks-is s)
-    (said (bom-fit (s .place)) (λ h. kept _ (only-last (unroll-to 0 s .ended) (mark-of s) _) (without-ready h)))
+    (said-behind (fits-refl _) (λ h. kept _ (only-last (unroll-to 0 s .ended) (mark-of s) _) (without-ready h)))
 
-after-marker-fit : (starts : Bool) (p : Place) → All Place (Fits p) (after-marker starts p)
+pub after-marker-fit : (starts : Bool) (p : Place) → All Place (Fits p) (after-marker starts p)
 unfolding after-marker
 after-marker-fit true p = holds (fits-refl p)
 after-marker-fit false p = all-bind _ (blanks-and-comment-fit p) (λ e f. all-need _ 49 (e .mark) _ (holds f))

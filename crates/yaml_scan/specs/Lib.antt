@@ -7,6 +7,7 @@ pub mod Choice
 pub mod Scan
 pub mod Open
 pub mod Examples
+pub mod IndentLaws
 pub mod Candidates
 pub mod Fetches
 pub mod ChoiceLaws
@@ -14,3 +15,6 @@ pub mod Runs
 pub mod Budget
 pub mod Laws
 pub mod Sink
+pub mod Moves
+pub mod FetchMoves
+pub mod Steps

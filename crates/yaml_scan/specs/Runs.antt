@@ -4,7 +4,7 @@ use mathlib.Core.Bool.{Bool, false, true}
 use mathlib.Core.List.{List, [], _++_, _∷_}
 use mathlib.Core.Logic.{_⊎_, inl, inr}
 use mathlib.Core.Path.{_∙_, _≡_, ap, refl, sym}
-use native.Mathlib.Nat.{zero-add}
+use native.Mathlib.Nat.{le-refl, zero-add}
 use native.Mathlib.Omega.{arith}
 use lib.ListN.{drop, length}
 use borrow.Author.Tests.{lt-ltb}
@@ -14,7 +14,7 @@ use Rattle.yaml_text.specs.Mark.{Place, look, origin}
 use Rattle.yaml_text.specs.Refusal.{got}
 use Rattle.yaml_text.specs.Test.{by-test, true-false}
 use Rattle.yaml_text.specs.All.{All, all-bind, all-got, all-weak, holds}
-use Rattle.yaml_text.specs.PlaceLaws.{Fits, fits-left, fits-no-nul, fits-refl, fits-trans, left, skip-fit}
+use Rattle.yaml_text.specs.PlaceLaws.{Fits, fits-left, fits-no-nul, fits-refl, fits-trans, left}
 use Rattle.yaml_lexeme.specs.Fits.{skip-gap-fit}
 use Rattle.yaml_scan.specs.declared.Candidate.{Candidate}
 use Rattle.yaml_scan.specs.declared.Candidate.the-variants.{Absent, Possible}
@@ -26,7 +26,7 @@ use Rattle.yaml_scan.specs.State.{Event, News, State, allow, at-place, b
 use Rattle.yaml_scan.specs.Choice.{choice, fetch, fetch-next}
 use Rattle.yaml_scan.specs.Scan.{begin, step, to-next-token, unrolled}
 use Rattle.yaml_scan.specs.Candidates.{Given, Over, Placed, Ready, ReadyState, Sound, fall-less, fresh, given, given-append, given-length, late, only-ends, only-placed, placed-append, ready, same-ready, stays-known, without-ready}
-use Rattle.yaml_scan.specs.Fetches.{Fetched, removed, stream-end-news}
+use Rattle.yaml_scan.specs.Fetches.{Fetched, behind-first, removed, stream-end-news}
 use Rattle.yaml_scan.specs.ChoiceLaws.{choice-says, fetch-news}
 
 -- the gap and the lapse
@@ -45,7 +45,7 @@ over-gap s p leads a f (ready r) = ready (move-ready f r)
 over-gap s p leads a f (late e o r) = late e (still-over (mark-of s) (p .mark) (top-key (s .keys)) (f .line-on) o) (move-ready f r)
 
 -- behind the lapse a candidate is gone, or it is the same and its line is not over
-lapsed : (m : Mark) (k : Candidate) → All Candidate (λ c. (c ≡ Absent) ⊎ ((c ≡ k) × (Over m k → ⊥))) (lapse m k)
+pub lapsed : (m : Mark) (k : Candidate) → All Candidate (λ c. (c ≡ Absent) ⊎ ((c ≡ k) × (Over m k → ⊥))) (lapse m k)
 unfolding lapse stale
 lapsed m Absent = holds (inl refl)
 lapsed m (Possible required n k) =
@@ -80,26 +80,31 @@ to-next-token-ready gs s =
 -- one token
 
 -- it takes a character, or ends the run
-abbrev Next : List Given → State → News → Type 0
+abbrev pub Next : List Given → State → News → Type 0
 Next gs s (goes-on es t) = (left (t .place) < left (s .place)) × Fits (s .place) (t .place) × (ReadyState gs s → Placed gs es × Sound (given gs es) t)
 Next gs s (ends-with es) = ReadyState gs s → Placed gs es
 
+takes-one : (p : Place) → 1 ≤ left p → Fits p (behind-first p)
+takes-one p h = record { taken = 1; within = h; rest-is = refl; index-is = refl; line-on = le-refl _; col-on = λ _. le-refl _ }
+
 takes-first : (gs : List Given) (s : State) → 1 ≤ left (s .place) → (w : News) → Fetched gs s w → Next gs s w
 takes-first gs s h (goes-on es t) f =
-    let g = skip-fit 1 (s .place) h in
+    let g = takes-one (s .place) h in
     (omega (arith, fits-left (f .0), fits-left g), fits-trans g (f .0), f .1)
 takes-first gs s h (ends-with es) f = f
 
-next-news : (gs : List Given) (limits : Limits) (s : State) → All News (Next gs s) (fetch-next limits s)
-unfolding choice fetch isZ
+-- where it is not the end, a character is there
+pub some-left : (cs : List ℕ) → isZ (peek cs 0) ≡ false → 1 ≤ length cs
+unfolding isZ
+some-left [] e = true-false e
+some-left (c ∷ cs) e = omega arith
+
+pub next-news : (gs : List Given) (limits : Limits) (s : State) → All News (Next gs s) (fetch-next limits s)
+unfolding choice fetch
 next-news gs limits s =
     by-test (isZ (look (s .place)))
     (λ e. rw (e, choice) (stream-end-news gs s (λ es k. k)))
-    (λ e. all-weak (takes-first gs s (some (rest-of s) e)) (fetch-news gs limits (choice s) s (choice-says s)))
-  where
-    some : (cs : List ℕ) → isZ (peek cs 0) ≡ false → 1 ≤ length cs
-    some [] e = true-false e
-    some (c ∷ cs) e = omega arith
+    (λ e. all-weak (takes-first gs s (some-left (rest-of s) e)) (fetch-news gs limits (choice s) s (choice-says s)))
 
 -- a step
 

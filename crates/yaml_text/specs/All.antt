@@ -24,6 +24,10 @@ pub all-weak : {A : Type 0} {P Q : A → Type 0} {r : Read A} → ((a : A) → P
 all-weak f (holds {a = x} h) = holds (f x h)
 all-weak f not-read = not-read
 
+pub all-both : {A : Type 0} {P Q : A → Type 0} {r : Read A} → All A P r → All A Q r → All A (λ a. P a × Q a) r
+all-both (holds h) (holds k) = holds (h, k)
+all-both not-read not-read = not-read
+
 pub all-any : {A : Type 0} (r : Read A) → All A (λ a. Unit {0}) r
 all-any (got a) = holds tt
 all-any (refused n m) = not-read
@@ -43,8 +47,3 @@ all-got {P} {a = x} h e = by-got (rw e at h)
 -- where it is known what is read, go on with that
 pub all-is : {A B : Type 0} {Q : B → Type 0} {r : Read A} {x : A} (f : A → Read B) → All A (λ a. a ≡ x) r → All B Q (f x) → All B Q (r >>= f)
 all-is f h k = all-bind f h (λ a e. rw e k)
-
--- or all but a part of it
-pub all-some : {A B I : Type 0} {Q : B → Type 0} {r : Read A} (f : A → Read B) (x : I → A) → All A (λ a. (i : I) × (a ≡ x i)) r → ((i : I) → All B Q (f (x i)))
-    → All B Q (r >>= f)
-all-some f x h k = all-bind f h (λ a e. rw (e .1) (k (e .0)))

@@ -27,9 +27,10 @@ pub record Fits (p q : Place) : Type 0 where
   pub rest-is : q .rest ≡ drop taken (p .rest)
   pub index-is : q .mark .index ≡ p .mark .index + taken
   pub line-on : p .mark .line ≤ q .mark .line
+  pub col-on : q .mark .line ≡ p .mark .line → p .mark .col ≤ q .mark .col
 
 pub fits-refl : (p : Place) → Fits p p
-fits-refl p = record { taken = 0; within = omega arith; rest-is = refl; index-is = omega arith; line-on = le-refl _ }
+fits-refl p = record { taken = 0; within = omega arith; rest-is = refl; index-is = omega arith; line-on = le-refl _; col-on = λ _. le-refl _ }
 
 pub fits-trans : {p q r : Place} → Fits p q → Fits q r → Fits p r
 fits-trans {p} {q} {r} f g =
@@ -40,6 +41,7 @@ fits-trans {p} {q} {r} f g =
       rest-is = rw (g .rest-is, f .rest-is, drop-drop (g .taken) (f .taken) (p .rest));
       index-is = omega arith;
       line-on = omega arith;
+      col-on = λ same. omega (arith, f .col-on (omega arith), g .col-on (omega arith));
     }
 
 -- what is left and what was taken are all that was there
@@ -57,21 +59,29 @@ pub fits-no-nul : {p q : Place} → Fits p q → NoNul (p .rest) → NoNul (q .r
 fits-no-nul {p} f h = rw (f .rest-is) (no-nul-drop (f .taken) (p .rest) h)
 
 -- behind one character
-fits-next : {m m' : Mark} {q : Place} (c : ℕ) (cs : List ℕ) → m' .index ≡ m .index + 1 → m .line ≤ m' .line → Fits (here m' cs) q → Fits (here m (c ∷ cs)) q
-fits-next c cs e l f =
-    record { taken = suc (f .taken); within = omega arith; rest-is = f .rest-is; index-is = omega arith; line-on = omega arith }
+fits-next : {m m' : Mark} {q : Place} (c : ℕ) (cs : List ℕ) → m' .index ≡ m .index + 1 → m .line ≤ m' .line → (m' .line ≡ m .line → m .col ≤ m' .col)
+    → Fits (here m' cs) q → Fits (here m (c ∷ cs)) q
+fits-next c cs e l k f =
+    record {
+      taken = suc (f .taken);
+      within = omega arith;
+      rest-is = f .rest-is;
+      index-is = omega arith;
+      line-on = omega arith;
+      col-on = λ same. omega (arith, k (omega arith), f .col-on (omega arith));
+    }
 
 pub fits-along : (m : Mark) (c : ℕ) (cs : List ℕ) {q : Place} → Fits (here (along m) cs) q → Fits (here m (c ∷ cs)) q
-fits-along m c cs f = fits-next c cs refl (le-refl _) f
+fits-along m c cs f = fits-next c cs refl (le-refl _) (λ _. omega arith) f
 
 pub fits-over : (m : Mark) (c d : ℕ) (cs : List ℕ) {q : Place} → Fits (here (over m c d) cs) q → Fits (here m (c ∷ cs)) q
 unfolding over
 fits-over m c d cs f =
     by-test (halfBreak c d)
-    (λ e. fits-next c cs refl (le-refl _) (rw e at f))
+    (λ e. fits-next c cs refl (le-refl _) (λ _. le-refl _) (rw e at f))
     (λ e. by-test (isBreak c)
-    (λ g. fits-next c cs refl (omega arith) (rw (e, g) at f))
-    (λ g. fits-next c cs refl (le-refl _) (rw (e, g) at f)))
+    (λ g. fits-next c cs refl (omega arith) (λ same. absurd (omega arith)) (rw (e, g) at f))
+    (λ g. fits-next c cs refl (le-refl _) (λ _. omega arith) (rw (e, g) at f)))
 
 -- a class that the end is not of tells that a character is there
 pub there : (f : ℕ → Bool) (cs : List ℕ) (i : ℕ) → f 0 ≡ false → f (peek cs i) ≡ true → i < length cs
@@ -81,16 +91,16 @@ there f (c ∷ cs) (suc i) z e = let h = there f cs i z e in omega arith
 
 -- n characters on
 pub skip-fit : (n : ℕ) (p : Place) → n ≤ left p → Fits p (skip-by n p)
-skip-fit n p h = record { taken = n; within = h; rest-is = refl; index-is = refl; line-on = le-refl _ }
+skip-fit n p h = record { taken = n; within = h; rest-is = refl; index-is = refl; line-on = le-refl _; col-on = λ _. omega arith }
 
 -- a places on, and b more
 pub skip-on : (a b : ℕ) (p : Place) → a + b ≤ left p → Fits (skip-by a p) (skip-by (a + b) p)
 skip-on a b p h =
     let e = length-drop a (p .rest) in
-    record { taken = b; within = omega arith; rest-is = sym (drop-drop b a (p .rest)); index-is = omega arith; line-on = le-refl _ }
+    record { taken = b; within = omega arith; rest-is = sym (drop-drop b a (p .rest)); index-is = omega arith; line-on = le-refl _; col-on = λ _. omega arith }
 
 break-fit : (n : ℕ) (p : Place) → n ≤ left p → Fits p (here (new-line n (p .mark)) (drop n (p .rest)))
-break-fit n p h = record { taken = n; within = h; rest-is = refl; index-is = refl; line-on = omega arith }
+break-fit n p h = record { taken = n; within = h; rest-is = refl; index-is = refl; line-on = omega arith; col-on = λ same. absurd (omega arith) }
 
 -- a break that stands here is there
 pub break-there : (cs : List ℕ) → break-length cs ≤ length cs

@@ -1,0 +1,1 @@
+// What the list of every accepted text keeps (demand 3), in specs/. No code.
