@@ -1,6 +1,6 @@
 -- Classes of ASCII characters: they hold neither the end nor a character from 128 up.
 use Prim.Native.Nat.{_<_, _≤_, ℕ}
-use mathlib.Core.Bool.{Bool, Bool·beq, _&&_, _||_, and-false, false, true}
+use mathlib.Core.Bool.{Bool, Bool·beq, _&&_, _||_, and-false, false, not, true}
 use mathlib.Core.List.{List, [], _∷_}
 use mathlib.Core.Path.{_∙_, _≡_, refl, sym}
 use native.Mathlib.Omega.{arith}
@@ -105,3 +105,11 @@ ascii-same {p} {q} a b t c =
     by-test (ltb c 128)
     (λ e. agreed (p c) (q c) (below 128 (λ k. Bool·beq (p k) (q k)) t c (ltb-true c 128 e)))
     (λ e. let h = ltb-false c 128 e in a .high c h ∙ sym (b .high c h))
+
+not-so : (b : Bool) → T (not b) → b ≡ false
+not-so true t = absurd t
+not-so false t = refl
+
+-- such a class shares no character with one that has none of its ASCII characters
+pub apart : {p : ℕ → Bool} (q : ℕ → Bool) → Ascii p → T (all-below 128 (λ c. not (p c && q c))) → (c : ℕ) → p c ≡ true → q c ≡ false
+apart {p} q a t c e = not-so (q c) (rw e at (below 128 (λ k. not (p k && q k)) t c (ascii-low a c e .1)))

@@ -1,11 +1,11 @@
 -- Where a plain scalar's text ends, told by the byte at a place.
 use Prim.Native.Nat.{_+_, _<_, _≤_, suc, ℕ}
-use mathlib.Core.Bool.{Bool, _&&_, _||_, and-false, and-true, false, not, or-false, or-true, true}
+use mathlib.Core.Bool.{Bool, _&&_, _||_, and-false, and-true, false, or-false, or-true, true}
 use mathlib.Core.List.{List}
 use mathlib.Core.Logic.{_⊎_, inl, inr}
 use mathlib.Core.Path.{_∙_, _≡_, refl, sym}
 use native.Mathlib.Omega.{arith}
-use lib.Dec.{T, eqb, ltb}
+use lib.Dec.{eqb, ltb}
 use lib.ListN.{drop, getD, length}
 use lib.Seq.{drop-cons}
 use borrow.Author.Tests.{ltb-false, ltb-true, ne-eqb}
@@ -23,8 +23,8 @@ use Rattle.yaml_text.specs.Utf8Laws.{first-past}
 use Rattle.yaml_text.specs.ByteLaws.{first-high}
 use Rattle.yaml_lexeme.specs.Plain.{plain-stops, plain-text}
 use Rattle.yaml_lexeme.specs.Turns.{plain-stop}
-use Rattle.utf8.proofs.Below.{all-below, below}
-use Rattle.chars.specs.Ascii.{Ascii, _or_, ascii-low, blank-ascii, break-ascii, flow-ascii, range}
+use Rattle.utf8.proofs.Below.{below}
+use Rattle.chars.specs.Ascii.{Ascii, _or_, apart, blank-ascii, break-ascii, flow-ascii, range}
 use Rattle.chars.specs.Bytes.{CharAt, byte-char, byte-within, char-at, none-end, none-ill}
 use Rattle.plain.specs.Text.{ends-at-colon, ordinary, taken, text-length}
 
@@ -43,14 +43,6 @@ none-of false false false false false flow blank x h = rw (and-false flow)
 pub unmarked : (flow blank : Bool) (c d : ℕ) → marked c ≡ false → plain-stops flow blank c d ≡ false
 unfolding marked plain-stops
 unmarked flow blank c d e = none-of (isBreakz c) (isBom c) (isFlow c) (eqb c '#') (eqb c ':') flow blank _ e
-
-not-so : (b : Bool) → T (not b) → b ≡ false
-not-so true t = absurd t
-not-so false t = refl
-
--- a class that shares no ASCII character with another
-apart : {p : ℕ → Bool} (q : ℕ → Bool) → Ascii p → T (all-below 128 (λ c. not (p c && q c))) → (c : ℕ) → p c ≡ true → q c ≡ false
-apart {p} q a t c e = not-so (q c) (rw e at (below 128 (λ k. not (p k && q k)) t c (ascii-low a c e .1)))
 
 pub ordinary-ascii : Ascii ordinary
 unfolding ordinary

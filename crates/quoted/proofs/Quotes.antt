@@ -1,0 +1,98 @@
+-- Turns over a quote and over a run of text.
+use Prim.Native.Nat.{_+_, _-_, ℕ}
+use mathlib.Core.Bool.{Bool, _&&_, false, true}
+use mathlib.Core.List.{List, [], _∷_}
+use mathlib.Core.Path.{_∙_, _≡_, ap, refl}
+use native.Mathlib.Omega.{arith}
+use lib.Dec.{eqb}
+use lib.ListN.{drop, getD, length, length-append, length-drop, set}
+use lib.Seq.{length-take-le, sets}
+use borrow.Author.Tests.{eq-eqb, eqb-true}
+use Rattle.yaml_text.specs.Char.{single-quote}
+use Rattle.yaml_text.specs.Class.{isBlank, isBreak, peek}
+use Rattle.yaml_text.specs.Mark.{along, along-by, word}
+use Rattle.yaml_text.specs.MarkLaws.{word-more}
+use Rattle.yaml_text.specs.Test.{both-true}
+use Rattle.yaml_text.specs.Utf8.{bytesOf, chars, encode}
+use Rattle.yaml_text.specs.Utf8Laws.{first-bytes}
+use Rattle.yaml_lexeme.specs.Quoted.{chars-of, quoted-run}
+use Rattle.chars.specs.declared.mark.Place.{Place}
+use Rattle.chars.specs.Bytes.{CharAt, eq-at, eq-char}
+use Rattle.chars.specs.Parts.{part}
+use Rattle.chars.specs.Places.{stands-along}
+use Rattle.chars.specs.View.{past}
+use Rattle.gaps.specs.Span.{Spans}
+use Rattle.quoted.specs.declared.turns.End.the-variants.{Closed}
+use Rattle.quoted.specs.declared.turns.Quote.{Quote}
+use Rattle.quoted.specs.declared.turns.Turned.{Turned}
+use Rattle.quoted.specs.declared.turns.Turned.the-variants.{Ends, Goes}
+use Rattle.quoted.specs.Modes.{mode-of}
+use Rattle.quoted.specs.Texts.{quote-by, text-char}
+use Rattle.quoted.specs.Written.{Sound, Turns, quote-of, text-turn}
+use Rattle.quoted.proofs.Texts.{Passed, pass-along, run-closed, run-pair, run-word}
+use Rattle.quoted.proofs.Turning.{closed-at, goes-on}
+
+quote-unblank : (single : Bool) → (isBlank (quote-by single) ≡ false) × (isBreak (quote-by single) ≡ false)
+unfolding isBlank isBreak
+quote-unblank true = (refl, refl)
+quote-unblank false = (refl, refl)
+
+single-low : isBreak single-quote ≡ false
+unfolding isBreak
+single-low = refl
+
+module _ {text : List ℕ} {q : Quote} {p : Place} {n : ℕ} {r : Turned} (s : Sound text (text-turn p n)) where
+  module _ (a : CharAt text (p .at) (quote-by (q .single)) 1) (b : ℕ) (e : b ≡ getD text (p .at + 1) 0) where
+    -- a single one that stands twice
+    pub pair-turns : {before after : List ℕ} → (q .single && eqb b 39) ≡ true → after ≡ set before n 39
+        → r ≡ Goes (text-turn (past p 2 (along-by 2 (p .mark))) (n + 1)) → Turns text q before after (text-turn p n) r
+    unfolding mode-of encode bytesOf
+    pair-turns {before} {after} h f k =
+        let u = quote-unblank (q .single) in
+        let m = p .mark in
+        let at = p .at in
+        let cs = chars (drop (at + 1) text) in
+        let d = eq-char text (at + 1) b e 39 tt (eqb-true b 39 (both-true (q .single) (eqb b 39) h .1)) in
+        let g : (q .single && eqb (peek cs 0) single-quote) ≡ true = rw (eq-at text (at + 1) b e 39 tt) h in
+        let l : Passed 1 cs = rw (d .next) ((omega arith, omega arith, single-low), tt) in
+        let i : m .index + 1 + 1 ≡ m .index + 2 = omega arith in
+        let j : m .col + 1 + 1 ≡ m .col + 2 = omega arith in
+        let x : at + 1 + 1 ≡ at + 2 = omega arith in
+        let v : quoted-run (quote-of q) chars-of 1 (along m) cs ≡ quoted-run (quote-of q) chars-of 0 (along-by 2 m) (chars (drop (at + 2) text)) =
+        pass-along (quote-of q) chars-of 1 (along m) cs l ∙ rw (i, j, d .next, x) in
+        goes-on (single-quote ∷ []) (text-turn (past p 2 (along-by 2 m)) (n + 1))
+        (rw (a .next)
+        (run-pair (quote-of q) m (quote-by (q .single)) cs (u .0) (u .1) (eq-eqb (quote-by (q .single)) (quote-by (q .single)) refl) g ∙ rw v))
+        f refl
+        (record { stands = stands-along (s .stands) 2 2 (omega arith) (omega (arith, d .within)); short = s .short; kept = tt; few = omega (arith, s .few) })
+        (omega arith) k
+
+    pub close-turns : (before : List ℕ) → (q .single && eqb b 39) ≡ false → r ≡ Ends (Closed (past p 1 (along (p .mark))) n)
+        → Turns text q before before (text-turn p n) r
+    unfolding mode-of
+    close-turns before h k =
+        let u = quote-unblank (q .single) in
+        let cs = chars (drop (p .at + 1) text) in
+        let g : (q .single && eqb (peek cs 0) single-quote) ≡ false = rw (eq-at text (p .at + 1) b e 39 tt) h in
+        closed-at before
+        (rw (a .next) (run-closed (quote-of q) (p .mark) (quote-by (q .single)) cs (u .0) (u .1) (eq-eqb (quote-by (q .single)) (quote-by (q .single)) refl) g))
+        (stands-along (s .stands) 1 1 (omega arith) (a .within)) (omega arith) (omega (arith, s .few)) k
+
+  -- a run of text
+  pub run-turns : {before after : List ℕ} {c len : ℕ} {e : Place} → CharAt text (p .at) c len → text-char (q .single) c ≡ true
+      → Spans text p e (word (text-char (q .single)) (p .mark) (chars (drop (p .at) text))) → after ≡ sets before n (part text (p .at) (e .at))
+      → r ≡ Goes (text-turn e (n + (e .at - p .at))) → Turns text q before after (text-turn p n) r
+  unfolding mode-of encode
+  run-turns {before} {after} {c} {len} {e} a t w f k =
+      let m = p .mark in
+      let y = word (text-char (q .single)) m (chars (drop (p .at) text)) in
+      let z = word (text-char (q .single)) (along m) (chars (drop (p .at + len) text)) in
+      let o = w .moves .onward in
+      let l : length (encode (y .text)) ≡ e .at - p .at =
+      ap length (w .bytes) ∙ length-take-le (e .at - p .at) _ (omega (arith, length-drop (p .at) text, w .moves .stands .within)) in
+      let g : length (encode (y .text)) ≡ length (bytesOf c) + length (encode (z .text)) =
+      rw (a .next, word-more (text-char (q .single)) m c (chars (drop (p .at + len) text)) t) (length-append (bytesOf c) (encode (z .text))) in
+      let i = first-bytes (drop (p .at) text) c len (a .is) .1 in
+      goes-on (y .text) (text-turn e (n + (e .at - p .at))) (run-word (quote-of q) m (chars (drop (p .at) text)) ∙ rw (← (w .moves .same))) (f ∙ rw (w .bytes)) (rw l)
+      (record { stands = w .moves .stands; short = s .short; kept = tt; few = omega (arith, s .few) })
+      (omega (arith, a .some)) k

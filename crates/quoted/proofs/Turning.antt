@@ -1,0 +1,115 @@
+-- A turn of the code, put together: it goes on, is refused, or the scalar is closed.
+use Prim.Native.Nat.{_*_, _+_, _<_, _≤_, ℕ}
+use mathlib.Core.Bool.{_&&_, true}
+use mathlib.Core.List.{List, []}
+use mathlib.Core.Path.{_∙_, _≡_, ap, refl, sym}
+use native.Mathlib.Omega.{arith}
+use lib.Dec.{eqb, ltb}
+use lib.ListN.{drop, length, length-append}
+use lib.Seq.{sets}
+use Rattle.yaml_text.specs.declared.Mark.{Mark}
+use Rattle.yaml_text.specs.Char.{tab}
+use Rattle.yaml_text.specs.Class.{isBlank}
+use Rattle.yaml_text.specs.Mark.{Run, along, edge-of, new-line}
+use Rattle.yaml_text.specs.Mark as definition
+use Rattle.yaml_text.specs.Refusal.{Read, before-read, got, refused}
+use Rattle.yaml_text.specs.Test.{by-test}
+use Rattle.yaml_text.specs.Utf8.{chars, encode}
+use Rattle.yaml_lexeme.specs.Quoted.{quoted-run}
+use Rattle.rooms.specs.Room.{sets-join}
+use Rattle.chars.specs.declared.mark.Place.{Place}
+use Rattle.chars.specs.Ascii.{ascii-low, blank-ascii}
+use Rattle.chars.specs.Bytes.{CharAt}
+use Rattle.chars.specs.Places.{stands-along}
+use Rattle.chars.specs.View.{Stands, past, view}
+use Rattle.gaps.specs.Breaks.{BreakAt}
+use Rattle.gaps.specs.Span.{encode-append}
+use Rattle.quoted.specs.declared.turns.End.the-variants.{Closed, Refused}
+use Rattle.quoted.specs.declared.turns.Quote.{Quote}
+use Rattle.quoted.specs.declared.turns.Turn.{Turn}
+use Rattle.quoted.specs.declared.turns.Turned.{Turned}
+use Rattle.quoted.specs.declared.turns.Turned.the-variants.{Ends, Goes}
+use Rattle.quoted.specs.Modes.{behind-break, blank-mode, break-mode, mode-of}
+use Rattle.quoted.specs.Written.{Sound, Turns, blank-turned, break-turned, ended, led-to, quote-of, rest-of, written}
+use Rattle.quoted.proofs.Kept.{blank-is, blank-kept, blank-owed, break-is, break-kept, break-owed}
+use Rattle.quoted.proofs.Runs.{before-none, run-blank, run-break}
+
+-- a text written before the rest
+written-before : (out : List ℕ) (n : ℕ) (t : List ℕ) (r : Read Run) → written out n (before-read t r) ≡ written (sets out n (encode t)) (n + length (encode t)) r
+unfolding written before-read
+written-before out n t (got r) =
+    let k : n + (length (encode t) + length (encode (r .text))) ≡ n + length (encode t) + length (encode (r .text)) = omega arith in
+    rw (encode-append t (r .text), ← (sets-join (encode t) (encode (r .text)) out n), length-append (encode t) (encode (r .text)), k)
+written-before out n t (refused k m) = refl
+
+module _ {text : List ℕ} {q : Quote} {before after : List ℕ} {t : Turn} {r : Turned} where
+  -- on to the state u, behind the text w
+  pub goes-on : (w : List ℕ) (u : Turn) → rest-of text q t ≡ before-read w (rest-of text q u) → after ≡ sets before (t .count) (encode w)
+      → u .count ≡ t .count + length (encode w) → Sound text u → t .place .at < u .place .at → r ≡ Goes u → Turns text q before after t r
+  unfolding led-to
+  goes-on w u e f g s h k =
+      rw k
+      (record {
+        same = ap (written before (t .count)) e ∙ written-before before (t .count) w (rest-of text q u) ∙ rw (f, g);
+        onward = (s, h);
+      })
+
+  pub refused-at : (n : ℕ) (m : Mark) → rest-of text q t ≡ refused n m → r ≡ Ends (Refused (record { number = n; mark = m })) → Turns text q before after t r
+  unfolding led-to ended written
+  refused-at n m e k = rw k (record { same = rw e; onward = tt })
+
+pub closed-at : {text : List ℕ} {q : Quote} {t : Turn} {r : Turned} (before : List ℕ) {p : Place}
+    → rest-of text q t ≡ got (record { text = []; place = view text p }) → Stands text p → t .place .at < p .at → t .count ≤ 3 * p .at
+    → r ≡ Ends (Closed p (t .count)) → Turns text q before before t r
+unfolding led-to ended written encode
+closed-at {t = t} before e s h l k =
+    let z : t .count + 0 ≡ t .count = omega arith in
+    rw k (record { same = rw (e, z); onward = (s, h, l) })
+
+-- what was kept back is written first, on the spot
+pub turns-from : {text : List ℕ} {q : Quote} {before mid after : List ℕ} {t u : Turn} {r : Turned} (w : List ℕ)
+    → rest-of text q t ≡ before-read w (rest-of text q u) → mid ≡ sets before (t .count) (encode w) → u .count ≡ t .count + length (encode w)
+    → u .place .at ≡ t .place .at → Turns text q mid after u r → Turns text q before after t r
+turns-from {text} {q} {before} {mid} {after} {t} {u} {r} w e f g h k =
+    record {
+      same = ap (written before (t .count)) e ∙ written-before before (t .count) w (rest-of text q u) ∙ rw (← f, ← g) (k .same);
+      onward = rw h at (k .onward);
+    }
+
+-- over a blank
+pub blank-turns : {text : List ℕ} {q : Quote} {t : Turn} {r : Turned} (before : List ℕ) {c : ℕ} → Sound text t → CharAt text (t .place .at) c 1
+    → isBlank c ≡ true → r ≡ blank-turned q t c → Turns text q before before t r
+unfolding encode
+blank-turns {text} {q} {t} {r} before {c} s a b k =
+    let l = ascii-low blank-ascii c b .1 in
+    let at = t .place .at in
+    let m = t .place .mark in
+    let e = run-blank (quote-of q) (mode-of text at (t .mode)) m c (chars (drop (at + 1) text)) b in
+    let f = blank-is a l (quote-of q) m (t .mode) (s .kept) in
+    let o = blank-owed text at (t .mode) (s .kept) in
+    by-test (behind-break (t .mode) && eqb c tab && ltb (edge-of m) (q .indent))
+    (λ h. refused-at 36 m (rw (a .next) (e ∙ rw (f, h))) (k ∙ rw h))
+    (λ h. goes-on [] (record { place = past (t .place) 1 (along m); mode = blank-mode at (t .mode); count = t .count })
+    (rw (a .next) (e ∙ rw (f, h))) refl (omega arith)
+    (record {
+      stands = stands-along (s .stands) 1 1 (omega arith) (a .within);
+      short = s .short;
+      kept = blank-kept a l (t .mode) (s .kept);
+      few = omega (arith, s .few);
+    })
+    (omega arith) (k ∙ rw h))
+
+-- over a break
+pub break-turns : {text : List ℕ} {q : Quote} {t : Turn} {r : Turned} (before : List ℕ) {n : ℕ} → Sound text t → BreakAt text (t .place) n
+    → r ≡ break-turned n t → Turns text q before before t r
+unfolding encode
+break-turns {text} {q} {t} {r} before {n} s a k =
+    let p = t .place in
+    let m = p .mark in
+    let b = mode-of text (p .at) (t .mode) in
+    let next = quoted-run (quote-of q) (mode-of text (p .at + n) (break-mode (t .mode))) 0 (new-line n m) (chars (drop (p .at + n) text)) in
+    let d : chars (drop (p .at + n) text) ≡ drop n (chars (drop (p .at) text)) = ap (λ (x : definition.Place). x .rest) (a .moves .same) in
+    let o = break-owed text (p .at) (p .at + n) (t .mode) in
+    goes-on [] _ (run-break (quote-of q) b m (a .breaks) (a .some) ∙ rw (break-is text (p .at) (p .at + n) (t .mode), ← d) (sym (before-none next))) refl (omega arith)
+    (record { stands = a .moves .stands; short = s .short; kept = break-kept text (p .at) (p .at + n) (t .mode); few = omega (arith, s .few, a .some) })
+    (omega (arith, a .some)) k

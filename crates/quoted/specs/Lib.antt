@@ -1,0 +1,4 @@
+pub mod Modes
+pub mod Texts
+pub mod Written
+pub mod After

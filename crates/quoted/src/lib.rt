@@ -1,0 +1,134 @@
+// Quoted scalars (33 to 40).
+ghost use Prim.Native.Nat.{_*_, _<_, _^_, _≤_, ℕ};
+ghost use mathlib.Core.List.{List};
+ghost use mathlib.Core.Path.{_≡_};
+ghost use lib.ListN.{length};
+ghost use Rattle.yaml_text.specs.Pick.{pick};
+ghost use Rattle.yaml_text.specs.Utf8.{encode};
+ghost use Rattle.yaml_lexeme.specs.declared.Style.the-variants.{DoubleQuoted, SingleQuoted};
+ghost use Rattle.yaml_lexeme.specs.Quoted.{fits-after, scan-flow-scalar};
+ghost use Rattle.chars.specs.View.{Stands, view};
+ghost use Rattle.reading.specs.Reading.{Indicated, Lexes, first-at};
+ghost use Rattle.quoted.specs.After.{Follows, Reads, after-run};
+ghost use Rattle.quoted.specs.Written.{Ran, quote-of};
+
+pub mod fold;
+pub mod turns;
+
+use crate::fold::Mode;
+use crate::turns::End;
+use crate::turns::Quote;
+use crate::turns::Turn;
+use crate::turns::Turned;
+use crate::turns::quoted_turn;
+use chars::class::is_breakz;
+use chars::mark::Place;
+use reading::Reached;
+use reading::Reading;
+use reading::clear_refused;
+use reading::got;
+use reading::refuse;
+use reading::text_at;
+use utf8::look;
+use yaml_lexeme::Kind;
+use yaml_lexeme::Style;
+use yaml_text::Mark;
+use yaml_text::Refusal;
+
+// The scalar's text from behind its opening quote.
+fn quoted_run(text: &[u8], q: Quote, out: &mut [u8]) -> End
+    requires { ⌜ Stands (now text) (first-at (q .start)) × (1 ≤ length (now text)) ⌝ }
+    ensures { λ r. ⌜ Ran (now (text .entry)) q (now (out .entry)) (now (out .exit)) r ⌝ }
+{
+    let start = q.start;
+    let first = Place { at: 0, mark: start };
+    let mut t = Turn {
+        place: first.skip_blank(),
+        mode: Mode::Chars,
+        count: 0,
+    };
+    loop {
+        let r = quoted_turn(text, q, t, out);
+        match r {
+            Turned::Goes(next) => {
+                t = next;
+            }
+            Turned::Ends(e) => {
+                return e;
+            }
+        }
+    }
+}
+
+// 40: what may follow a quoted scalar.
+fn fits_after(flow: bool, same: bool, c: u32) -> bool
+    ensures { λ r. ⌜ r ≡ fits-after flow same c ⌝ }
+{
+    is_breakz(c) | flow & ((c == 44) | (c == 93) | (c == 125)) | (c == 58) & (flow | same)
+}
+
+fn quoted_style(single: bool) -> Style
+    ensures { λ r. ⌜ r ≡ pick single SingleQuoted DoubleQuoted ⌝ }
+{
+    if single {
+        return Style::SingleQuoted;
+    }
+    Style::DoubleQuoted
+}
+
+// What follows the closing quote, of a text of n bytes.
+fn after_quote(text: &[u8], q: Quote, flow: bool, p: Place, used: u32, n: usize) -> Reading
+    requires { ⌜ Stands (now text) p × (1 ≤ p .at) × (n ≤ 3 * p .at) × (length (now text) ≤ 2 ^ 20) ⌝ }
+    ensures { λ r. ⌜ ((t : List ℕ) → length (encode t) ≡ n → Follows (now (text .entry)) used r (after-run flow (quote-of q) (record { text = t; place = view (now (text .entry)) p }))) ⌝ }
+{
+    let r = gaps::blanks_and_comment(text, p);
+    match r {
+        Reached::Refused(f) => Reading::Refused(f),
+        Reached::To(e) => {
+            let at = e.at;
+            let m = e.mark;
+            let start = q.start;
+            if fits_after(flow, start.line == m.line, look(text, at)) {
+                return got(
+                    Kind::Scalar(quoted_style(q.single), text_at(used, n)),
+                    start,
+                    m,
+                    e,
+                );
+            }
+            refuse(40, m)
+        }
+    }
+}
+
+fn read_quoted(text: &[u8], q: Quote, flow: bool, used: u32, out: &mut [u8]) -> Reading
+    requires { ⌜ Indicated (now text) (q .start) used ⌝ }
+    ensures { λ r. ⌜ Reads (now (text .entry)) (now (out .entry)) (now (out .exit)) used r (scan-flow-scalar flow (q .single) (q .indent) (view (now (text .entry)) (first-at (q .start)))) ⌝ }
+{
+    let r = quoted_run(text, q, out);
+    match r {
+        End::Closed(p, n) => after_quote(text, q, flow, p, used, n),
+        End::Refused(f) => Reading::Refused(f),
+    }
+}
+
+// From its opening quote; the span takes in the blanks and comment behind it.
+pub fn scan_flow_scalar(
+    text: &[u8],
+    start: Mark,
+    flow: bool,
+    single: bool,
+    indent: u32,
+    used: u32,
+    out: &mut [u8],
+) -> Reading
+    requires { ⌜ Indicated (now text) start used × (indent < 2 ^ 21) ⌝ }
+    ensures { λ r. ⌜ Lexes (now (text .entry)) (now (out .entry)) (now (out .exit)) used r (scan-flow-scalar flow single indent (view (now (text .entry)) (first-at start))) ⌝ }
+{
+    let q = Quote {
+        single: single,
+        indent: indent,
+        start: start,
+    };
+    clear_refused(read_quoted(text, q, flow, used, out), out)
+}
