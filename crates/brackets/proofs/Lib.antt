@@ -1,0 +1,4 @@
+pub mod Emitted
+pub mod Stacked
+pub mod Levels
+pub mod Answers
