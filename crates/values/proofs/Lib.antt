@@ -2,5 +2,4 @@ pub mod Levels
 pub mod One
 pub mod Roll
 pub mod Block
-pub mod Colon
 pub mod Value

@@ -1,20 +1,17 @@
 // K4: '-' and '?'. K5: ':'.
 ghost use mathlib.Core.Path.{_≡_};
 ghost use mathlib.Core.List.{List};
-ghost use Prim.Native.Nat.{_*_, _+_, _≤_, ℕ};
+ghost use Prim.Native.Nat.{_*_, _+_, _≤_};
 ghost use lib.ListN.{length};
 ghost use Rattle.yaml_scan.specs.declared.Candidate.the-variants as candidate;
-ghost use Rattle.yaml_scan.specs.Value.{fetch-block-entry, fetch-key, fetch-value, takes-colon, value-with, value-without};
-ghost use Rattle.chars.specs.Bytes.{CharAt};
+ghost use Rattle.yaml_scan.specs.Value.{fetch-block-entry, fetch-key, fetch-value, value-with, value-without};
 ghost use Rattle.chars.specs.View.{Small};
 ghost use Rattle.stacks.specs.Frame.{SetsLevel, key-of, level-of};
-ghost use Rattle.states.specs.State.{key-mark, state-of};
+ghost use Rattle.states.specs.State.{key-mark};
 ghost use Rattle.states.specs.Laid.{opening-if};
 ghost use Rattle.states.specs.Fetch.{FetchesOne, Ready};
 ghost use Rattle.values.specs.Value.{Opens, Rollable, RollsAt, SeesColon, goes-one, note-by, questioned-of, start-by};
 ghost use Rattle.values.specs.declared.Opened.the-variants as opened;
-use chars::class::is_blank_or_breakz;
-use chars::class::is_flow;
 use news::Event;
 use news::Note;
 use news::Opening;
@@ -28,7 +25,6 @@ use stacks::indent::roll;
 use states::Fetched;
 use states::State;
 use states::refuse;
-use utf8::look;
 use yaml_lexeme::Kind;
 use yaml_lexeme::Token;
 use yaml_scan::Candidate;
@@ -174,24 +170,6 @@ pub fn fetch_key(limits: Limits, s: State, entries: &mut [u32], frames: &mut [u3
             )
         }
     }
-}
-
-// Whether K5 takes the ':' here.
-pub fn takes_colon(text: &[u8], s: State) -> bool
-    requires { ⌜ Small (s .place) ⌝ }
-    ensures { λ r. ⌜ ((c : ℕ) → CharAt (now (text .entry)) (s .place .at) c 1 → (entries frames : List ℕ) (count : ℕ) → r ≡ takes-colon (state-of (now (text .entry)) entries frames count s)) ⌝ }
-{
-    let n = look(text, s.place.at + 1);
-    if is_blank_or_breakz(n) {
-        return true;
-    }
-    if s.depth == 0 {
-        return false;
-    }
-    if is_flow(n) {
-        return true;
-    }
-    s.adjacent == s.place.mark.index + 1
 }
 
 // ':' came in this entry. Whether it begins a pair: the first of a sequence's entry, if no '?' came before it.

@@ -1,0 +1,3 @@
+pub mod Leave
+pub mod Marker
+pub mod End

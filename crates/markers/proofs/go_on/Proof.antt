@@ -1,0 +1,18 @@
+use borrow.Author.Needs.{needs}
+use Rattle.markers.proofs.go_on.Statement.{statement}
+use Rattle.markers.proofs.go_on.Tie as tie
+
+with-indents-requires : tie.Need-with-indents-requires
+with-indents-requires c κs = search needs
+
+moved-requires : tie.Need-moved-requires
+moved-requires c κs = search needs
+
+closing-requires : tie.Need-closing-requires
+closing-requires c κs = search needs
+
+returns : tie.Need-returns
+returns c = rw (c .closing .ensures, c .before .moved .ensures, c .before .before .with-indents .ensures)
+
+pub go-on-spec : {M : Type 1} → statement M
+go-on-spec = tie.close (tie.spec with-indents-requires moved-requires closing-requires returns)
