@@ -33,7 +33,7 @@ module _ {text : List ℕ} {at c : ℕ} (a : CharAt text at c 1) (l : c < 128) w
   pub blank-is : (q : Quote) (m : Mark) (mode : Mode) → Kept text at mode
       → quoted-blank q m c (mode-of text at mode)
       ≡ pick (behind-break mode && eqb c tab && ltb (edge-of m) (q .indent)) (wrong-quote 36 m) (goes [] (mode-of text (at + 1) (blank-mode at mode)) 0)
-  unfolding quoted-blank mode-of behind-break blank-mode
+  unfolding quoted-blank mode-of blank-mode
   blank-is q m Chars k = rw part-here
   blank-is q m (Blanks from) k = rw (part-blank from (k .0))
   blank-is q m (Folded n) k = refl
@@ -107,7 +107,7 @@ module _ (q : Quote) (b : definition.Mode) (m : Mark) (c : ℕ) (cs : List ℕ) 
 
 module _ (q : Quote) (m : Mark) (c : ℕ) (cs : List ℕ) (text : List ℕ) (at : ℕ) where
   pub text-wrong : (mode : Mode) (k : ℕ) → k ≡ line-number q mode m (c ∷ cs) → (k ≡ 0 → ⊥) → quoted-text q (mode-of text at mode) m c cs ≡ wrong-quote k (q .start)
-  unfolding quoted-text mode-of line-number held-against
+  unfolding quoted-text mode-of line-number
   text-wrong Chars k e z = absurd (z e)
   text-wrong (Blanks from) k e z = line-wrong q _ m c cs k e z
   text-wrong (Folded n) k e z = line-wrong q _ m c cs k e z
@@ -118,7 +118,7 @@ module _ (q : Quote) (m : Mark) (c : ℕ) (cs : List ℕ) (text : List ℕ) (at 
   text-wrong (Joined n) k e z = line-wrong q _ m c cs k e z
 
   pub text-right : (mode : Mode) → line-number q mode m (c ∷ cs) ≡ 0 → quoted-text q (mode-of text at mode) m c cs ≡ quoted-char q (folds-to (mode-of text at mode)) c cs
-  unfolding quoted-text mode-of line-number held-against folds-to
+  unfolding quoted-text mode-of line-number folds-to
   text-right Chars e = refl
   text-right (Blanks from) e = line-right q _ m c cs e
   text-right (Folded n) e = line-right q _ m c cs e

@@ -58,7 +58,7 @@ break-mode Escaped = Joined 1
 break-mode (Joined k) = Joined (k + 1)
 
 -- a break came before, and no text since
-unfoldable pub behind-break : Mode → Bool
+abbrev pub behind-break : Mode → Bool
 behind-break Chars = false
 behind-break (Blanks from) = false
 behind-break (Folded k) = true
@@ -66,7 +66,7 @@ behind-break Escaped = true
 behind-break (Joined k) = true
 
 -- text here is held against a document marker and the indent. quote: it is the closing quote
-unfoldable pub held-against : Mode → Bool → Bool
+abbrev pub held-against : Mode → Bool → Bool
 held-against Chars quote = false
 held-against (Blanks from) quote = true
 held-against (Folded k) quote = true
