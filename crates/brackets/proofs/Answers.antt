@@ -5,11 +5,13 @@ use mathlib.Core.List.{List}
 use mathlib.Core.Path.{_≡_, refl}
 use lib.ListN.{drop}
 use Rattle.yaml_text.specs.Pick.{pick}
+use Rattle.yaml_text.specs.Refusal.{Read}
 use Rattle.yaml_lexeme.specs.declared.Kind as held
 use Rattle.yaml_lexeme.specs.declared.Kind.the-variants as held-as
 use Rattle.yaml_lexeme.specs.Held.{laid}
 use Rattle.yaml_lexeme.specs.Token.{FlowEntry, FlowMappingEnd, FlowMappingStart, FlowSequenceEnd, FlowSequenceStart, Kind, kind-bytes}
 use Rattle.yaml_scan.specs.declared.Limits.{Limits}
+use Rattle.yaml_scan.specs.State.{News}
 use Rattle.news.specs.declared.Opening.{Opening}
 use Rattle.news.specs.declared.Opening.the-variants as opening
 use Rattle.chars.specs.View.{Stands}
@@ -37,11 +39,11 @@ pub entry : Textless FlowEntry held-as.FlowEntry
 unfolding laid kind-bytes
 entry = record { same = λ used. refl; bytes = refl }
 
--- the fetcher from s emitted from t, which is u
-pub emitted : {limits : Limits} {rest text frames es fs : List ℕ} {count used : ℕ} {s t u : State} {o : Opening} {g h : held.Kind} {k : Kind} {last : Bool} {r : Fetched}
-    (implicit : Bool) → Emits rest o h t last r → o ≡ opening-if implicit opening.FlowMappingEnd → h ≡ g → Textless k g → t ≡ u → s .place ≡ u .place
+-- the fetcher from s emitted from t, which is u, as the definition's d
+pub emitted : {limits : Limits} {rest text frames es fs : List ℕ} {count used : ℕ} {s t u : State} {o : Opening} {g h : held.Kind} {k : Kind} {last : Bool} {d : Read News} {r : Fetched}
+    (implicit : Bool) → d ≡ emit-bracket k implicit last (state-of text es fs count u) → Emits rest o h t last r → o ≡ opening-if implicit opening.FlowMappingEnd → h ≡ g → Textless k g → t ≡ u → s .place ≡ u .place
     → rest ≡ drop (s .place .at) text → Stands text (s .place) → Low (limits .entries) 1_048_577 es (u .indents) → u .depth ≤ limits .levels → KeysLow fs
-    → FetchesQuiet limits text frames es fs count used s (emit-bracket k implicit last (state-of text es fs count u)) r
-emitted {limits} {rest} {text} {frames} {es} {fs} {count} {used} {s} {u = u} {o = o} {g = g} {k = k} {last = last} {r = r} implicit w e b z a p q stands low deep keys =
+    → FetchesQuiet limits text frames es fs count used s d r
+emitted {limits} {rest} {text} {frames} {es} {fs} {count} {used} {s} {u = u} {o = o} {g = g} {k = k} {last = last} {r = r} implicit i w e b z a p q stands low deep keys =
     let v : Emits rest o g u last r = rw (a, b) at w in
-    v .quiet k implicit z e limits text frames es fs count used s (rw p at q) (record { stands = rw p at stands; low = low; deep = deep; keys = keys }) p
+    rw i (v .quiet k implicit z e limits text frames es fs count used s (rw p at q) (record { stands = rw p at stands; low = low; deep = deep; keys = keys }) p)

@@ -38,12 +38,14 @@ unfolding key-mark
 opens-level d k w q =
     record { keys = keys-opened d refl k w; levels = levels-opened d refl k w ∙ rw q; low = λ h. low-level w (low-key k h (omega arith)) }
 
--- '[' or '{', behind the candidate and the entry
-module _ (limits : Limits) (sequence : Bool) (text entries a : List ℕ) (count : ℕ) (s : State) {e es : List ℕ} {r : Stacked}
-    (k : Saves entries a e count s) (w : StacksBracket limits entries es s r) where
-  pub start-low : {g : List ℕ} {d : ℕ} {l : Level} → Stands text (s .place) → KeysLow a → OpensLevel e g d l → KeysLow g
-  start-low h low o = o .low (k .low low (omega (arith, h)))
+-- behind a candidate that was saved
+pub opens-low : {text entries a e g : List ℕ} {count d : ℕ} {s : State} {l : Level} → Saves entries a e count s → OpensLevel e g d l → Stands text (s .place)
+    → KeysLow a → KeysLow g
+opens-low k o h low = o .low (k .low low (omega (arith, h)))
 
+-- '[' or '{', behind the candidate and the entry
+module _ (sequence : Bool) (text : List ℕ) {limits : Limits} {entries a : List ℕ} {count : ℕ} {s : State} {e es : List ℕ} {r : Stacked}
+    (k : Saves entries a e count s) (w : StacksBracket limits entries es s r) where
   pub start-full : r ≡ Full → fetch-flow-collection-start limits sequence (state-of text entries a count s) ≡ refused 48 (s .place .mark)
   unfolding fetch-flow-collection-start _>>=_
   start-full q = rw (← k .same text, w .same text e count, q)
@@ -106,7 +108,7 @@ module _ (sequence : Bool) (text entries a : List ℕ) (count : ℕ) (s : State)
           rw (closes-by, f, w .same text entries count, q, levels-first e (s .depth) (omega arith), m, ap (frame-keys e) d)
 
 -- ','
-module _ (text entries a : List ℕ) (count : ℕ) (s : State) {e : List ℕ} {r : Bool} (w : Removes a e s r) where
+module _ (text entries : List ℕ) (count : ℕ) {a : List ℕ} {s : State} {e : List ℕ} {r : Bool} (w : Removes a e s r) where
   pub entry-required : r ≡ false → fetch-flow-entry (state-of text entries a count s) ≡ refused 41 (s .place .mark)
   unfolding fetch-flow-entry _>>=_
   entry-required q = rw (w .same text entries count, q)

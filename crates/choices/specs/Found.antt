@@ -43,7 +43,7 @@ Found m flow cs AtComma = Low (peek cs 0) × (flow ≡ true)
 Found m flow cs AtDash = Low (peek cs 0)
 Found m flow cs AtQuestion = Low (peek cs 0)
 Found m flow cs AtColon = Low (peek cs 0)
-Found m flow cs AtTag = Low (peek cs 0)
+Found m flow cs AtTag = Low (peek cs 0) × (peek cs 0 ≡ '!')
 Found m flow cs (AtAnchor alias) = Low (peek cs 0)
 Found m flow cs (AtBlock literal) = Low (peek cs 0)
 Found m flow cs (AtQuoted single) = Low (peek cs 0)
@@ -72,7 +72,7 @@ module _ (m : Mark) (cs : List ℕ) (some : isZ (peek cs 0) ≡ false) (flow col
       on-pick P (eqb c ':' && colon) (λ e. is-low c ':' tt (both-true (eqb c ':') colon e .0)) λ _.
       on-pick P (eqb c '*') (is-low c '*' tt) λ _.
       on-pick P (eqb c '&') (is-low c '&' tt) λ _.
-      on-pick P (eqb c '!') (is-low c '!' tt) λ _.
+      on-pick P (eqb c '!') (λ e. (is-low c '!' tt e, eqb-true c '!' e)) λ _.
       on-pick P (eqb c '|') (λ e. on-pick P flow (λ _. tt) (λ _. is-low c '|' tt e)) λ _.
       on-pick P (eqb c '>') (λ e. on-pick P flow (λ _. tt) (λ _. is-low c '>' tt e)) λ _.
       on-pick P (eqb c single-quote) (is-low c single-quote tt) λ _.
@@ -100,12 +100,15 @@ found text entries frames count s = rw (choice-seen text entries frames count s)
 pub low-char : (text : List ℕ) (at : ℕ) {c : ℕ} → c ≡ peek (chars (drop at text)) 0 → Low c → CharAt text at c 1
 low-char text at {c} e h = rw (bytes1 c (h .1)) at (peek-char text at c e (h .0))
 
--- and the byte there
+-- the byte there
+pub low-same : (text : List ℕ) (at : ℕ) → Low (peek (chars (drop at text)) 0) → peek (chars (drop at text)) 0 ≡ getD text at 0
+low-same text at h =
+    let c = peek (chars (drop at text)) 0 in
+    let b : c ∷ [] ≡ take 1 (drop at text) = sym (bytes1 c (h .1)) ∙ first-bytes (drop at text) c 1 (low-char text at refl h .is) .0 in
+    let z : at + 0 ≡ at = omega arith in
+    ap (λ (l : List ℕ). getD l 0 0) b ∙ getD-take 1 (drop at text) 0 0 (omega arith) ∙ getD-drop at text 0 0 ∙ rw z
+
 pub low-byte : (text : List ℕ) (at : ℕ) → Low (peek (chars (drop at text)) 0) → (at < length text) × (getD text at 0 < 128)
 low-byte text at h =
-    let c = peek (chars (drop at text)) 0 in
-    let k = low-char text at refl h in
-    let b : c ∷ [] ≡ take 1 (drop at text) = sym (bytes1 c (h .1)) ∙ first-bytes (drop at text) c 1 (k .is) .0 in
-    let z : at + 0 ≡ at = omega arith in
-    let e : c ≡ getD text at 0 = ap (λ (l : List ℕ). getD l 0 0) b ∙ getD-take 1 (drop at text) 0 0 (omega arith) ∙ getD-drop at text 0 0 ∙ rw z in
-    (omega (arith, k .within), omega (arith, h))
+    let e = low-same text at h in
+    (omega (arith, low-char text at refl h .within), omega (arith, h))

@@ -20,7 +20,7 @@ use Rattle.gaps.specs.Span.{encode-append}
 use Rattle.chars.specs.Parts.{part, part-more, part-none}
 use Rattle.quoted.specs.declared.fold.Mode.{Mode}
 use Rattle.quoted.specs.declared.fold.Mode.the-variants.{Blanks, Chars, Escaped, Folded, Joined}
-use Rattle.quoted.specs.Modes.{Kept, behind-break, blank-mode, break-mode, held-against, line-number, mode-of, owed}
+use Rattle.quoted.specs.Modes.{Kept, behind-break, blank-mode, break-mode, line-number, mode-of, owed}
 
 -- behind the blank c of one byte
 module _ {text : List ℕ} {at c : ℕ} (a : CharAt text at c 1) (l : c < 128) where

@@ -74,8 +74,13 @@ returns-3 c = λ limits entries count ready text used q h.
     let m = kind k in
     let l = top m in
     let a = start l .args in
-    rw (end-goes (a .sequence) text entries (now (a .frames)) count (a .s) (deep l .if1 .left) (l .level .ensures) (m .if2 .left) (k .remove-key .ensures) (c .before .before .before .before .before .if3 .taken))
-    (emitted _ (c .emit-bracket .ensures) (c .before .before .before .before .pair-end .ensures) (c .before .before .before .closing-kind .ensures) (closes (a .sequence)) (c .before .with-depth .ensures) refl q h (ready .low) (omega (arith, ready .deep)) (k .remove-key .ensures .low (ready .keys)))
+    emitted _
+    (end-goes (a .sequence) text entries (now (a .frames)) count (a .s)
+    (deep l .if1 .left) (l .level .ensures) (m .if2 .left) (k .remove-key .ensures) (c .before .before .before .before .before .if3 .taken))
+    (c .emit-bracket .ensures)
+    (c .before .before .before .before .pair-end .ensures)
+    (c .before .before .before .closing-kind .ensures) (closes (a .sequence))
+    (c .before .with-depth .ensures) refl q h (ready .low) (omega (arith, ready .deep)) (k .remove-key .ensures .low (ready .keys))
 
 refuse-requires-3 : tie.Need-refuse-requires-3
 refuse-requires-3 c κs = search needs
@@ -90,7 +95,8 @@ returns-4 c = λ limits entries count ready text used q h.
     let l = top m in
     let a = start l .args in
     rw (c .refuse3 .ensures)
-    (fetch-refused (end-required (a .sequence) text entries (now (a .frames)) count (a .s) (deep l .if1 .left) (l .level .ensures) (m .if2 .left) (k .remove-key .ensures) (c .before .if3 .left)))
+    (fetch-refused (end-required (a .sequence) text entries (now (a .frames)) count (a .s)
+    (deep l .if1 .left) (l .level .ensures) (m .if2 .left) (k .remove-key .ensures) (c .before .if3 .left)))
 
 pub fetch-flow-collection-end-spec : {M : Type 1} → statement M
 fetch-flow-collection-end-spec =

@@ -1,11 +1,10 @@
 use mathlib.Core.Bool.{false}
 use mathlib.Core.Path.{_∙_, refl}
 use native.Mathlib.Omega.{arith}
-use denote.Ref.{now}
 use borrow.Author.Needs.{needs}
 use Rattle.states.specs.Goes.{fetch-refused}
 use Rattle.brackets.proofs.Answers.{emitted, opens}
-use Rattle.brackets.proofs.Levels.{start-deep, start-full, start-goes, start-low}
+use Rattle.brackets.proofs.Levels.{opens-low, start-deep, start-full, start-goes}
 use Rattle.brackets.proofs.Stacked.{stacked-low}
 use Rattle.brackets.proofs.fetch_flow_collection_start.Statement.{statement}
 use Rattle.brackets.proofs.fetch_flow_collection_start.Tie as tie
@@ -56,9 +55,8 @@ returns : tie.Need-returns
 returns c = λ text used q h.
     let w = c .before .before .before .before .before in
     let k = save w in
-    let a = start k .args in
     rw (c .refuse .ensures)
-    (fetch-refused (start-full (a .limits) (a .sequence) text (now (a .entries)) (now (a .frames)) (a .count) (a .s) (k .save-key .ensures) (w .stack-bracket .ensures) (c .before .enum-told .given .1)))
+    (fetch-refused (start-full (start k .args .sequence) text (k .save-key .ensures) (w .stack-bracket .ensures) (c .before .enum-told .given .1)))
 
 refuse-requires-2 : tie.Need-refuse-requires-2
 refuse-requires-2 c κs = search needs
@@ -74,9 +72,8 @@ returns-2 c = λ text used q h.
     let i = c .before .before .before .before .before in
     let w = stack i in
     let k = save w in
-    let a = start k .args in
     rw (c .refuse2 .ensures)
-    (fetch-refused (start-deep (a .limits) (a .sequence) text (now (a .entries)) (now (a .frames)) (a .count) (a .s) (k .save-key .ensures) (w .stack-bracket .ensures) (i .r .given .1) (c .before .if1 .taken)))
+    (fetch-refused (start-deep (start k .args .sequence) text (k .save-key .ensures) (w .stack-bracket .ensures) (i .r .given .1) (c .before .if1 .taken)))
 
 open-level-requires : tie.Need-open-level-requires
 open-level-requires c κs = let k = save (stack (indents (c .before))) in
@@ -111,10 +108,15 @@ returns-3 c = λ text used q h.
     let i = indents d in
     let w = stack i in
     let k = save w in
-    let a = start k .args in
-    rw (start-goes (a .limits) (a .sequence) text (now (a .entries)) (now (a .frames)) (a .count) (a .s) (k .save-key .ensures) (w .stack-bracket .ensures) (i .r .given .1) (d .if1 .left) (o .open-level .ensures))
-    (emitted false (c .emit-bracket .ensures) refl (c .before .before .before .before .opening-kind .ensures) (opens (a .sequence)) (c .before .with-depth .ensures ∙ rw (c .before .before .before .with-indents .ensures)) refl q h (stacked-low (w .stack-bracket .ensures) (i .r .given .1)) (omega (arith, d .if1 .left))
-    (start-low (a .limits) (a .sequence) text (now (a .entries)) (now (a .frames)) (a .count) (a .s) (k .save-key .ensures) (w .stack-bracket .ensures) h (start k .pre .0 .keys) (o .open-level .ensures)))
+    let sequence = start k .args .sequence in
+    emitted false
+    (start-goes sequence text (k .save-key .ensures) (w .stack-bracket .ensures) (i .r .given .1) (d .if1 .left) (o .open-level .ensures))
+    (c .emit-bracket .ensures) refl
+    (c .before .before .before .before .opening-kind .ensures) (opens sequence)
+    (c .before .with-depth .ensures ∙ rw (c .before .before .before .with-indents .ensures)) refl q h
+    (stacked-low (w .stack-bracket .ensures) (i .r .given .1))
+    (omega (arith, d .if1 .left))
+    (opens-low (k .save-key .ensures) (o .open-level .ensures) h (start k .pre .0 .keys))
 
 pub fetch-flow-collection-start-spec : {M : Type 1} → statement M
 fetch-flow-collection-start-spec =

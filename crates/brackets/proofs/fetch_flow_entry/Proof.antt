@@ -1,5 +1,4 @@
 use mathlib.Core.Path.{refl}
-use denote.Ref.{now}
 use borrow.Author.Needs.{needs}
 use Rattle.states.specs.Goes.{fetch-refused}
 use Rattle.states.specs.Seen.{low-level}
@@ -41,9 +40,11 @@ returns : tie.Need-returns
 returns c = λ limits entries count ready text used q h.
     let l = c .before .before .before .before .before .before .before in
     let k = removed l in
-    let a = start k .args in
-    rw (entry-goes text entries (now (a .frames)) count (a .s) (k .remove-key .ensures) (l .before .before .if1 .taken) (start k .pre .2) (l .level .ensures) (c .before .before .before .before .set-level .ensures) (c .before .before .before .before .before .new-level .ensures))
-    (emitted _ (c .emit-bracket .ensures) (c .before .pair-end .ensures) refl entry refl refl q h (ready .low) (ready .deep) (low-level (c .before .before .before .before .set-level .ensures) (k .remove-key .ensures .low (ready .keys))))
+    let set = c .before .before .before .before in
+    emitted _
+    (entry-goes text entries count (k .remove-key .ensures) (l .before .before .if1 .taken) (start k .pre .2) (l .level .ensures) (set .set-level .ensures) (set .before .new-level .ensures))
+    (c .emit-bracket .ensures) (c .before .pair-end .ensures) refl entry refl refl q h (ready .low) (ready .deep)
+    (low-level (set .set-level .ensures) (k .remove-key .ensures .low (ready .keys)))
 
 refuse-requires : tie.Need-refuse-requires
 refuse-requires c κs = search needs
@@ -54,8 +55,7 @@ same-length-2 c = search needs
 returns-2 : tie.Need-returns-2
 returns-2 c = λ limits entries count ready text used q h.
     let k = c .before .before .before .before in
-    let a = start k .args in
-    rw (c .refuse .ensures) (fetch-refused (entry-required text entries (now (a .frames)) count (a .s) (k .remove-key .ensures) (c .before .if1 .left)))
+    rw (c .refuse .ensures) (fetch-refused (entry-required text entries count (k .remove-key .ensures) (c .before .if1 .left)))
 
 pub fetch-flow-entry-spec : {M : Type 1} → statement M
 fetch-flow-entry-spec =

@@ -19,7 +19,9 @@ same-length : tie.Need-same-length
 same-length c = search needs
 
 returns : tie.Need-returns
-returns c = opens-level (c .before .before .before .before .before .before .before .before .before .before .args .depth) (c .before .before .before .before .before .before .before .clear-key .ensures) (c .before .before .set-level .ensures) (c .before .before .before .new-level .ensures)
+returns c =
+    let k = c .before .before .before .before .before .before .before in
+    opens-level (k .before .before .before .args .depth) (k .clear-key .ensures) (c .before .before .set-level .ensures) (c .before .before .before .new-level .ensures)
 
 pub open-level-spec : {M : Type 1} → statement M
 open-level-spec =

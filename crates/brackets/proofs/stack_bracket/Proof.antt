@@ -33,7 +33,8 @@ returns-2 c =
     let t = c .before .before .before .before .before .before in
     let b = start (low t) in
     let a = b .args in
-    stacks-one (a .limits) (now (a .entries)) (a .s) (b .pre .0) (low t .if1 .left) (sym (t .top-ends .ensures) ∙ c .before .before .before .before .before .if2 .taken) (c .before .before .stack .ensures)
+    stacks-one (a .limits) (now (a .entries)) (a .s) (b .pre .0) (low t .if1 .left)
+    (sym (t .top-ends .ensures) ∙ c .before .before .before .before .before .if2 .taken) (c .before .before .stack .ensures)
 
 same-length-2 : tie.Need-same-length-2
 same-length-2 c = search needs
