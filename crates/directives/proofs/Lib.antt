@@ -1,0 +1,10 @@
+pub mod Spans
+pub mod Texts
+pub mod Versions
+pub mod Handle
+pub mod Prefix
+pub mod Words
+pub mod Joining
+pub mod ReservedTexts
+pub mod Names
+pub mod Lines

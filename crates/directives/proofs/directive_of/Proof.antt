@@ -1,0 +1,61 @@
+use Rattle.directives.proofs.Names.{of-other, of-tag, of-version}
+use borrow.Author.Needs.{needs}
+use Rattle.directives.proofs.directive_of.Statement.{statement}
+use Rattle.directives.proofs.directive_of.Tie as tie
+
+slice-aggregate-spells : tie.Need-slice-aggregate-spells
+slice-aggregate-spells c = search needs
+
+spells-requires : tie.Need-spells-requires
+spells-requires c κs = search needs
+
+version-directive-requires : tie.Need-version-directive-requires
+version-directive-requires c κs = search needs
+
+returns : tie.Need-returns
+returns c = of-version _ (c .before .before .before .before .before .before .pre .name) (c .before .before .spells .ensures) (c .before .if1 .taken) (c .version-directive .ensures _ _)
+
+slice-aggregate-spells-2 : tie.Need-slice-aggregate-spells-2
+slice-aggregate-spells-2 c = search needs
+
+spells-requires-2 : tie.Need-spells-requires-2
+spells-requires-2 c κs = search needs
+
+tag-directive-requires : tie.Need-tag-directive-requires
+tag-directive-requires c κs = search needs
+
+same-length : tie.Need-same-length
+same-length c = search needs
+
+returns-2 : tie.Need-returns-2
+returns-2 c =
+    let k = c .before .before .before .before .before .before .before .before in
+    of-tag _ (k .before .before .before .before .pre .name) (k .spells .ensures) (c .before .before .before .before .before .before .before .if1 .left) (c .before .before .before .before .before .spells2 .ensures) (c .before .before .before .before .if2 .taken) (c .before .before .tag-directive .ensures)
+
+reserved-directive-requires : tie.Need-reserved-directive-requires
+reserved-directive-requires c κs = search needs
+
+same-length-2 : tie.Need-same-length-2
+same-length-2 c = search needs
+
+returns-3 : tie.Need-returns-3
+returns-3 c =
+    let k = c .before .before .before .before .before .before .before .before in
+    of-other _ (k .before .before .before .before .pre .name) (k .spells .ensures) (c .before .before .before .before .before .before .before .if1 .left) (c .before .before .before .before .before .spells2 .ensures) (c .before .before .before .before .if2 .left) (c .before .before .reserved-directive .ensures)
+
+pub directive-of-spec : {M : Type 1} → statement M
+directive-of-spec =
+    tie.close
+    (tie.spec
+    slice-aggregate-spells
+    spells-requires
+    version-directive-requires
+    returns
+    slice-aggregate-spells-2
+    spells-requires-2
+    tag-directive-requires
+    same-length
+    returns-2
+    reserved-directive-requires
+    same-length-2
+    returns-3)
