@@ -6,3 +6,9 @@ pub mod Tokens
 pub mod ByteCount
 pub mod Bytes
 pub mod Room
+pub mod Nested
+pub mod NestedLaws
+pub mod Opened
+pub mod NestingMoves
+pub mod NestingSteps
+pub mod Nesting
