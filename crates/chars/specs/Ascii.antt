@@ -113,3 +113,7 @@ not-so false t = refl
 -- such a class shares no character with one that has none of its ASCII characters
 pub apart : {p : ℕ → Bool} (q : ℕ → Bool) → Ascii p → T (all-below 128 (λ c. not (p c && q c))) → (c : ℕ) → p c ≡ true → q c ≡ false
 apart {p} q a t c e = not-so (q c) (rw e at (below 128 (λ k. not (p k && q k)) t c (ascii-low a c e .1)))
+
+pub blank-unbroken : (c : ℕ) → isBlank c ≡ true → isBreak c ≡ false
+unfolding isBlank isBreak
+blank-unbroken = apart isBreak blank-ascii tt

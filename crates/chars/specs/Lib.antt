@@ -4,6 +4,4 @@ pub mod Reach
 pub mod View
 pub mod Places
 pub mod Lines
-pub mod Encoded
-pub mod Counted
 pub mod Parts

@@ -1,17 +1,14 @@
 -- What the definition's choice looks at: the place, the flow level by its depth, the indent, where ':' may stand.
 use Prim.Native.Nat.{_+_, ℕ}
-use mathlib.Core.Bool.{Bool, _&&_, _||_, not}
+use mathlib.Core.Bool.{Bool, _&&_, _||_}
 use mathlib.Core.List.{List}
 use mathlib.Core.Path.{_≡_}
-use native.Mathlib.Omega.{arith}
 use lib.Dec.{eqb, ltb}
 use lib.ListN.{drop}
-use borrow.Author.Tests.{ltb-false, ltb-true, ne-eqb}
 use Rattle.yaml_text.specs.Char.{'%', '-'}
 use Rattle.yaml_text.specs.Class.{isBlankOrBreakz, isBom, isFlow, isZ, peek}
 use Rattle.yaml_text.specs.Mark.{edge-of, isMarker}
 use Rattle.yaml_text.specs.Pick.{pick}
-use Rattle.yaml_text.specs.Test.{by-test}
 use Rattle.yaml_text.specs.Utf8.{chars}
 use Rattle.yaml_scan.specs.declared.Choice.{Choice}
 use Rattle.yaml_scan.specs.declared.Choice.the-variants.{AtByteOrderMark, AtDirective, AtEnd, AtMarker, AtPlain, BelowIndent, Stray}
@@ -20,7 +17,7 @@ use Rattle.yaml_scan.specs.State as definition
 use Rattle.yaml_scan.specs.Value.{takes-colon}
 use Rattle.chars.specs.View.{Stands}
 use Rattle.states.specs.declared.State.{State}
-use Rattle.states.specs.Seen.{in-flow-seen}
+use Rattle.states.specs.Seen.{in-flow-seen, level-zero}
 use Rattle.states.specs.State.{state-of}
 
 -- r is what the definition says of the state, whatever its stacks hold
@@ -56,12 +53,6 @@ choice-before s cs =
     (pick (outside && isBom c) AtByteOrderMark
     (pick (ltb (edge-of m) (s .indents .indent)) BelowIndent
     (indicator (ltb 0 (s .depth)) (colon-before s n) c n)))))
-
-level-zero : (d : ℕ) → not (ltb 0 d) ≡ eqb d 0
-level-zero d =
-    by-test (ltb 0 d)
-    (λ e. let l = ltb-true 0 d e in rw (e, ne-eqb d 0 (omega arith)))
-    (λ e. let l = ltb-false 0 d e in let z : d ≡ 0 = omega arith in rw z)
 
 module _ (text entries frames : List ℕ) (count : ℕ) (s : State) where
   pub colon-seen : takes-colon (state-of text entries frames count s) ≡ colon-before s (peek (ahead text s) 1)

@@ -18,9 +18,9 @@ use Rattle.yaml_lexeme.specs.Block.{Layout, behind, content, content-end, insid
 use Rattle.yaml_text.specs.PlaceLaws.{fits-left, word-fit}
 use Rattle.chars.specs.declared.mark.Place.{Place}
 use Rattle.chars.specs.View.{Moves, view}
+use Rattle.chars.specs.Parts.{Spans}
 use Rattle.gaps.specs.Breaks.{both, breaks, breaks-some}
 use Rattle.gaps.specs.Line.{in-line, line, line-more}
-use Rattle.gaps.specs.Span.{Spans}
 use Rattle.gaps.specs.Walk.{moves-some}
 use Rattle.contents.specs.declared.Between.{Between}
 use Rattle.contents.specs.declared.Between.the-variants.{Ahead, Behind}

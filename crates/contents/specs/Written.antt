@@ -7,8 +7,8 @@ use lib.ListN.{length, length-append, length-replicate, replicate}
 use lib.Seq.{sets}
 use Rattle.yaml_text.specs.Mark.{Run, before-run}
 use Rattle.yaml_text.specs.Utf8.{bytesOf, encode}
+use Rattle.yaml_text.specs.Utf8Laws.{encode-append}
 use Rattle.rooms.specs.Room.{sets-join}
-use Rattle.gaps.specs.Span.{encode-append}
 
 -- the text t was stored from n on, and the next byte goes to k
 pub record Puts (before : List ℕ) (n : ℕ) (after : List ℕ) (k : ℕ) (t : List ℕ) : Type 0 where

@@ -16,12 +16,12 @@ use Rattle.yaml_text.specs.Mark as definition
 use Rattle.yaml_text.specs.Refusal.{before-read, got}
 use Rattle.yaml_text.specs.Test.{by-test, true-false}
 use Rattle.yaml_text.specs.Utf8.{bytesOf, chars, encode}
+use Rattle.yaml_text.specs.Utf8Laws.{encode-append}
 use Rattle.yaml_lexeme.specs.Directive.{blanks-at, parameters}
 use Rattle.chars.specs.declared.mark.Place.{Place}
 use Rattle.chars.specs.Parts.{Spans, part}
 use Rattle.chars.specs.View.{Moves, Stands, view}
 use Rattle.words.specs.declared.Run.the-variants.{To}
-use Rattle.words.specs.Encode.{encode-append}
 use Rattle.words.specs.Run.{Writes, seen-run, written}
 use Rattle.words.specs.RunLaws.{span-none, span-size, span-some, written-before}
 use Rattle.directives.specs.Name.{spaced}

@@ -9,12 +9,13 @@ use Rattle.rooms.specs.Room.{sets-join}
 use Rattle.yaml_text.specs.declared.Mark.{Mark}
 use Rattle.yaml_text.specs.Mark.{Run, along, skip-by}
 use Rattle.yaml_text.specs.Utf8.{encode}
+use Rattle.yaml_text.specs.Utf8Laws.{encode-append}
 use Rattle.chars.specs.declared.mark.Place.{Place}
 use Rattle.chars.specs.Bytes.{CharAt}
 use Rattle.chars.specs.Parts.{Spans, part, part-join, part-more, part-none}
 use Rattle.chars.specs.Places.{stands-along}
 use Rattle.chars.specs.View.{past}
-use Rattle.words.specs.Encode.{encode-append, encode-one}
+use Rattle.words.specs.Encode.{encode-one}
 use Rattle.words.specs.RunLaws.{span-size}
 use Rattle.directives.specs.Front.{Fronts}
 

@@ -6,9 +6,8 @@ use mathlib.Core.Path.{_∙_, _≡_, ap, refl, sym}
 use native.Mathlib.Omega.{arith}
 use lib.Dec.{T, eqb}
 use lib.ListN.{drop, getD, take}
-use borrow.Author.Tests.{eqb-true}
 use Rattle.yaml_text.specs.declared.Mark.{Mark}
-use Rattle.yaml_text.specs.Char.{'#', carriage-return, line-feed, space, tab}
+use Rattle.yaml_text.specs.Char.{'#', carriage-return, line-feed, tab}
 use Rattle.yaml_text.specs.Class.{isBlank, isBreak, peek}
 use Rattle.yaml_text.specs.Mark.{Run, along, along-by, before-run, here, look, new-line, nothing-at, over, word}
 use Rattle.yaml_text.specs.Mark as definition
@@ -24,7 +23,7 @@ use Rattle.yaml_lexeme.specs.Fits.{to-break-fit}
 use Rattle.yaml_lexeme.specs.Gap.{blanks, comment-after, gap-turn, isLeading, on-blank, on-hash, on-other, skip-gap, stop, to-break}
 use Rattle.yaml_lexeme.specs.Turns.{blanks-more, blanks-stop, gap-turned, to-break-more, to-break-stop}
 use Rattle.chars.specs.declared.mark.Place.{Place}
-use Rattle.chars.specs.Ascii.{blank-ascii, break-ascii, low}
+use Rattle.chars.specs.Ascii.{blank-ascii, blank-unbroken, break-ascii, low}
 use Rattle.chars.specs.Bytes.{CharAt, ascii-at, eq-at, ne-char}
 use Rattle.chars.specs.Reach.{reach-within}
 use Rattle.chars.specs.View.{Moves, Stands, past, view}
@@ -94,18 +93,11 @@ module _ (blank : Bool) (p : definition.Place) where
 
 -- gaps
 
-blank-break : (c : ℕ) → isBlank c ≡ true → isBreak c ≡ false
-unfolding isBlank isBreak
-blank-break c e =
-    by-test (eqb c space)
-    (λ f. rw (eqb-true c space f))
-    (λ f. let g : eqb c tab ≡ true = rw f at e in rw (eqb-true c tab g))
-
 pub gap-blank : {s : List ℕ} {at c : ℕ} (flow a : Bool) (b : Before) (m : Mark) → CharAt s at c 1 → isBlank c ≡ true
     → skip-gap flow a b m (chars (drop at s)) ≡ skip-gap flow a (on-blank flow m c b) (along m) (chars (drop (at + 1) s))
 unfolding gap-turn
 gap-blank {s} {at} {c} flow a b m x e =
-    let f = blank-break c e in
+    let f = blank-unbroken c e in
     let cs = chars (drop (at + 1) s) in
     rw (x .next) (gap-turned flow a b m c cs ∙ rw (f, e, or-false a, over-along m c (peek cs 0) f))
 

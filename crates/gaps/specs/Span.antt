@@ -1,22 +1,18 @@
 -- A run of characters: the place behind it, and the bytes that it was read from, which are its text.
 use Prim.Native.Nat.{_+_, _-_, ℕ}
-use mathlib.Core.List.{List, [], _++_, _∷_, append-assoc, append-nil}
-use mathlib.Core.Path.{_∙_, _≡_, ap, refl, sym}
+use mathlib.Core.List.{List, _++_, append-assoc, append-nil}
+use mathlib.Core.Path.{_∙_, _≡_, ap, sym}
 use native.Mathlib.Omega.{arith}
 use lib.ListN.{drop, take}
 use lib.Seq.{drop-drop, take-add}
 use Rattle.yaml_text.specs.Mark.{Run, along-by, before-run, nothing-at}
-use Rattle.yaml_text.specs.Utf8.{bytesOf, chars, encode}
-use Rattle.yaml_text.specs.Utf8Laws.{first-bytes}
+use Rattle.yaml_text.specs.Utf8.{chars, encode}
+use Rattle.yaml_text.specs.Utf8Laws.{encode-append, first-bytes}
 use Rattle.chars.specs.declared.mark.Place.{Place}
 use Rattle.chars.specs.Reach.{Reach, more, none, reach-within}
-use Rattle.chars.specs.View.{Moves, Stands, past, view}
+use Rattle.chars.specs.View.{Stands, past, view}
+use Rattle.chars.specs.Parts.{Spans}
 use Rattle.gaps.specs.Walk.{Walks, walks-along, walks-done, walks-start}
-
-pub encode-append : (s t : List ℕ) → encode (s ++ t) ≡ encode s ++ encode t
-unfolding encode
-encode-append [] t = refl
-encode-append (c ∷ s) t = rw (encode-append s t) (sym (append-assoc (bytesOf c) (encode s) (encode t)))
 
 -- characters in a row encode to the bytes where they stand
 pub reach-encode : {s : List ℕ} {at k end : ℕ} → Reach s at k end → encode (take k (chars (drop at s))) ≡ take (end - at) (drop at s)
@@ -26,11 +22,6 @@ reach-encode {s} {at} {end = end} (more {c = c} {n = n} {k = k} x r) =
     let w = reach-within r (x .within) in
     let e : end - at ≡ n + (end - (at + n)) = omega (arith, w) in
     rw (x .next, e, take-add n (end - (at + n)) (drop at s), drop-drop n at s, first-bytes (drop at s) c n (x .is) .0, reach-encode r)
-
--- from p to r the run d was read
-pub record Spans (text : List ℕ) (p r : Place) (d : Run) : Type 0 where
-  pub moves : Moves text p r (d .place)
-  pub bytes : encode (d .text) ≡ take (r .at - p .at) (drop (p .at) text)
 
 -- a loop that reads the run `whole` began at `start` and stands at p, where `rest` is left of it
 pub record Spanning (text : List ℕ) (start p : Place) (whole rest : Run) : Type 0 where

@@ -12,7 +12,7 @@ ghost use Rattle.reading.specs.Reading.{Reaches};
 ghost use Rattle.gaps.specs.declared.Gapped.the-variants.{Got, Refused};
 ghost use Rattle.gaps.specs.Gap.{Open, Other, Skips, gap-from};
 ghost use Rattle.gaps.specs.Line.{is-low, line, low-run};
-ghost use Rattle.gaps.specs.Span.{Spans};
+ghost use Rattle.chars.specs.Parts.{Spans};
 use chars::class::is_blank;
 use chars::class::is_break;
 use chars::mark::Place;

@@ -23,7 +23,6 @@ use Rattle.yaml_text.specs.Utf8Laws.{first-past}
 use Rattle.yaml_text.specs.ByteLaws.{first-high}
 use Rattle.yaml_lexeme.specs.Plain.{plain-stops, plain-text}
 use Rattle.yaml_lexeme.specs.Turns.{plain-stop}
-use Rattle.utf8.proofs.Below.{below}
 use Rattle.chars.specs.Ascii.{Ascii, _or_, apart, blank-ascii, break-ascii, flow-ascii, range}
 use Rattle.chars.specs.Bytes.{CharAt, byte-char, byte-within, char-at, none-end, none-ill}
 use Rattle.plain.specs.Text.{ends-at-colon, ordinary, taken, text-length}

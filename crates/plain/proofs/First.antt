@@ -1,6 +1,6 @@
 -- The first character of a plain scalar, and the scalar that is read.
-use Prim.Native.Nat.{_+_, _-_, _≤_, suc, zero, ℕ}
-use mathlib.Core.Bool.{Bool, false}
+use Prim.Native.Nat.{_%_, _*_, _+_, _-_, _≤_, suc, zero, ℕ}
+use mathlib.Core.Bool.{Bool, _&&_, false, true}
 use mathlib.Core.List.{List, _∷_}
 use mathlib.Core.Path.{_∙_, _≡_, ap, refl, sym}
 use native.Mathlib.Omega.{arith}
@@ -8,19 +8,18 @@ use lib.Dec.{ltb}
 use lib.ListN.{drop, getD, length, take}
 use lib.Seq.{length-take-le, sets}
 use borrow.Author.Tests.{eqb-false}
-use Rattle.yaml_text.specs.declared.Decoded.the-variants.{Char}
+use Rattle.yaml_text.specs.declared.Decoded.the-variants.{Char, Ill}
 use Rattle.yaml_text.specs.declared.Mark.{Mark}
 use Rattle.yaml_text.specs.Class.{isZ, peek}
 use Rattle.yaml_text.specs.Mark.{along}
 use Rattle.yaml_text.specs.Refusal.{got}
 use Rattle.yaml_text.specs.Test.{by-pick}
-use Rattle.yaml_text.specs.Utf8.{byLen, chars, encode, lenOf}
+use Rattle.yaml_text.specs.Utf8.{byLen, charIf, chars, encode, four, isScalar, isTail, lenOf, three, two}
 use Rattle.yaml_text.specs.Utf8Laws.{first-at}
 use Rattle.yaml_lexeme.specs.declared.Style.the-variants.{Plain}
 use Rattle.yaml_lexeme.specs.Plain.{plain-text, scan-plain-scalar}
 use Rattle.chars.specs.declared.mark.Place.{Place}
 use Rattle.chars.specs.Bytes.{CharAt, peek-char}
-use Rattle.chars.specs.Encoded.{four-len, three-len, two-len}
 use Rattle.chars.specs.Parts.{Spans, part-join, part-more}
 use Rattle.chars.specs.Places.{stands-along}
 use Rattle.chars.specs.View.{Stands, past, view}
@@ -29,6 +28,27 @@ use Rattle.reading.specs.declared.Reading.the-variants as reading
 use Rattle.reading.specs.Reading.{Given, Lexes}
 use Rattle.reading.specs.Reading as readings
 use Rattle.reading.specs.Scalars.{scalar-at, scalar-got}
+
+no-char : {A : Type 0} {c n : ℕ} → Ill ≡ Char c n → A
+no-char e = let z : _≡_ {A = ℕ} 0 1 = cc in absurd (omega arith)
+
+len-if : (p : Bool) (v m c n : ℕ) → charIf p v m ≡ Char c n → n ≡ m
+len-if true v m c n e = cc
+len-if false v m c n e = no-char e
+
+two-len : (a b v n : ℕ) → two a b ≡ Char v n → n ≡ 2
+unfolding two
+two-len a b v n e = let w = a % 32 * 64 + b % 64 in len-if (isTail b && isScalar 0x80 w) w 2 v n e
+
+three-len : (a b c v n : ℕ) → three a b c ≡ Char v n → n ≡ 3
+unfolding three
+three-len a b c v n e = let w = a % 16 * 4096 + b % 64 * 64 + c % 64 in len-if (isTail b && (isTail c && isScalar 0x800 w)) w 3 v n e
+
+four-len : (a b c d v n : ℕ) → four a b c d ≡ Char v n → n ≡ 4
+unfolding four
+four-len a b c d v n e =
+    let w = a % 8 * 262144 + b % 64 * 4096 + c % 64 * 64 + d % 64 in
+    len-if (isTail b && (isTail c && (isTail d && isScalar 0x10000 w))) w 4 v n e
 
 -- a character is as long as its first byte tells
 len-by : (k a b c d v n : ℕ) → k ≤ 4 → byLen k a b c d ≡ Char v n → n ≡ k

@@ -12,11 +12,10 @@ use Rattle.yaml_text.specs.Mark.{edge-of, isMarker}
 use Rattle.yaml_text.specs.Pick.{pick}
 use Rattle.yaml_text.specs.Test.{by-test}
 use Rattle.yaml_text.specs.Utf8.{encode}
-use Rattle.yaml_text.specs.Utf8Laws.{bytes1}
+use Rattle.yaml_text.specs.Utf8Laws.{bytes1, encode-append}
 use Rattle.yaml_lexeme.specs.Quoted.{Quote, broken, folds-to, goes, quote-char, quoted-blank, quoted-char, quoted-line, quoted-text, wrong-quote}
 use Rattle.yaml_lexeme.specs.Quoted as definition
 use Rattle.chars.specs.Bytes.{CharAt}
-use Rattle.gaps.specs.Span.{encode-append}
 use Rattle.chars.specs.Parts.{part, part-more, part-none}
 use Rattle.quoted.specs.declared.fold.Mode.{Mode}
 use Rattle.quoted.specs.declared.fold.Mode.the-variants.{Blanks, Chars, Escaped, Folded, Joined}

@@ -18,10 +18,9 @@ use Rattle.yaml_text.specs.Utf8Laws.{first-bytes}
 use Rattle.yaml_lexeme.specs.Quoted.{chars-of, quoted-run}
 use Rattle.chars.specs.declared.mark.Place.{Place}
 use Rattle.chars.specs.Bytes.{CharAt, eq-at, eq-char}
-use Rattle.chars.specs.Parts.{part}
+use Rattle.chars.specs.Parts.{Spans, part}
 use Rattle.chars.specs.Places.{stands-along}
 use Rattle.chars.specs.View.{past}
-use Rattle.gaps.specs.Span.{Spans}
 use Rattle.quoted.specs.declared.turns.End.the-variants.{Closed}
 use Rattle.quoted.specs.declared.turns.Quote.{Quote}
 use Rattle.quoted.specs.declared.turns.Turned.{Turned}

@@ -17,12 +17,8 @@ use Rattle.yaml_text.specs.Test.{by-test}
 use Rattle.yaml_lexeme.specs.Escape.{Escaped, escape}
 use Rattle.yaml_lexeme.specs.Quoted.{Mode, Quote, Turn, after-turn, broken, chars-of, closes, escape-turn, goes, quote-char, quoted-blank, quoted-break, quoted-char, quoted-run, quoted-text, quoted-turn, wrong-quote}
 use Rattle.yaml_lexeme.specs.Turns.{quoted-turned}
-use Rattle.chars.specs.Ascii.{apart, blank-ascii, break-ascii}
+use Rattle.chars.specs.Ascii.{apart, blank-unbroken, break-ascii}
 use Rattle.gaps.specs.Breaks.{Breaks, none, one, two}
-
-pub blank-unbroken : (c : ℕ) → isBlank c ≡ true → isBreak c ≡ false
-unfolding isBlank isBreak
-blank-unbroken = apart isBreak blank-ascii tt
 
 break-unblank : (c : ℕ) → isBreak c ≡ true → isBlank c ≡ false
 unfolding isBlank isBreak

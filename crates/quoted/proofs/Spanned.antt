@@ -19,7 +19,8 @@ use Rattle.chars.specs.Ascii.{Ascii, _or_, apart, range}
 use Rattle.chars.specs.Bytes.{CharAt, ascii-char, none-end, none-ill}
 use Rattle.chars.specs.Reach.{reach-one}
 use Rattle.chars.specs.View.{past}
-use Rattle.gaps.specs.Span.{Spanning, Spans, spans-along, spans-done}
+use Rattle.chars.specs.Parts.{Spans}
+use Rattle.gaps.specs.Span.{Spanning, spans-along, spans-done}
 use Rattle.quoted.specs.Texts.{ordinary, special, text-char}
 
 ordinary-ascii : Ascii ordinary

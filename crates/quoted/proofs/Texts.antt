@@ -10,7 +10,7 @@ use borrow.Author.Tests.{not-true}
 use Rattle.yaml_text.specs.declared.Mark.{Mark}
 use Rattle.yaml_text.specs.Char.{backslash, single-quote}
 use Rattle.yaml_text.specs.Class.{isBlank, isBreak, peek}
-use Rattle.yaml_text.specs.Mark.{along, along-by, break-length, here, over, word}
+use Rattle.yaml_text.specs.Mark.{along, along-by, break-length, here, word}
 use Rattle.yaml_text.specs.MarkLaws.{over-along, word-more, word-stop}
 use Rattle.yaml_text.specs.Refusal.{before-read, got}
 use Rattle.yaml_text.specs.Test.{by-test, true-false}

@@ -15,6 +15,7 @@ use Rattle.yaml_text.specs.Mark as definition
 use Rattle.yaml_text.specs.Refusal.{Read, before-read, got, refused}
 use Rattle.yaml_text.specs.Test.{by-test}
 use Rattle.yaml_text.specs.Utf8.{chars, encode}
+use Rattle.yaml_text.specs.Utf8Laws.{encode-append}
 use Rattle.yaml_lexeme.specs.Quoted.{quoted-run}
 use Rattle.rooms.specs.Room.{sets-join}
 use Rattle.chars.specs.declared.mark.Place.{Place}
@@ -23,7 +24,6 @@ use Rattle.chars.specs.Bytes.{CharAt}
 use Rattle.chars.specs.Places.{stands-along}
 use Rattle.chars.specs.View.{Stands, past, view}
 use Rattle.gaps.specs.Breaks.{BreakAt}
-use Rattle.gaps.specs.Span.{encode-append}
 use Rattle.quoted.specs.declared.turns.End.the-variants.{Closed, Refused}
 use Rattle.quoted.specs.declared.turns.Quote.{Quote}
 use Rattle.quoted.specs.declared.turns.Turn.{Turn}

@@ -6,7 +6,7 @@ ghost use lib.ListN.{drop};
 ghost use Rattle.yaml_text.specs.Mark.{break-length, word};
 ghost use Rattle.yaml_text.specs.Utf8.{chars};
 ghost use Rattle.chars.specs.Bytes.{CharAt};
-ghost use Rattle.gaps.specs.Span.{Spans};
+ghost use Rattle.chars.specs.Parts.{Spans};
 ghost use Rattle.chars.specs.View.{Small, Stands};
 ghost use Rattle.quoted.specs.declared.turns.End.the-variants.{Refused};
 ghost use Rattle.quoted.specs.declared.turns.Turned.the-variants.{Ends, Goes};

@@ -1,6 +1,6 @@
 -- Line feeds, one store a turn: what is left gives the whole. And what a refusal clears.
-use Prim.Native.Nat.{_+_, _-_, _<_, _^_, _≤_, suc, ℕ}
-use mathlib.Core.List.{List, _∷_}
+use Prim.Native.Nat.{_+_, _-_, _<_, _≤_, suc, ℕ}
+use mathlib.Core.List.{List}
 use mathlib.Core.Path.{_∙_, _≡_, ap, refl, sym}
 use native.Mathlib.Omega.{arith}
 use lib.ListN.{length, length-set, replicate, set}

@@ -14,7 +14,7 @@ use Rattle.yaml_lexeme.specs.declared.Kind.the-variants as kind
 use Rattle.yaml_lexeme.specs.Token as tokens
 use Rattle.yaml_lexeme.specs.Held.{laid-token}
 use Rattle.chars.specs.declared.mark.Place.{Place}
-use Rattle.chars.specs.View.{Moves, Stands, view}
+use Rattle.chars.specs.View.{Stands, view}
 use Rattle.reading.specs.declared.Lexeme.{Lexeme}
 use Rattle.reading.specs.declared.Reached.{Reached}
 use Rattle.reading.specs.declared.Reached.the-variants as reached

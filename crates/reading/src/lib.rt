@@ -1,7 +1,7 @@
 // What a lexeme reader answers: a token with the place behind it, or a refusal.
 ghost use Prim.Native.Nat.{_%_, _+_, _^_, _<_};
 ghost use mathlib.Core.Path.{_≡_};
-ghost use lib.ListN.{length, replicate};
+ghost use lib.ListN.{replicate};
 ghost use lib.Seq.{sets};
 ghost use Rattle.reading.specs.Reading.{Clears};
 ghost use Rattle.reading.specs.declared.Reached.the-variants as reached;

@@ -32,7 +32,7 @@ pub take-sets : (t l : List ℕ) (k n : ℕ) → k ≤ n → take k (sets l n t)
 take-sets [] l k n h = refl
 take-sets (a ∷ t) l k n h = let g : k ≤ suc n = omega arith in take-sets t (set l n a) k (suc n) g ∙ take-set-le k l n a h
 
-set-behind : (p q : List ℕ) (i a : ℕ) → set (p ++ q) (length p + i) a ≡ p ++ set q i a
+pub set-behind : (p q : List ℕ) (i a : ℕ) → set (p ++ q) (length p + i) a ≡ p ++ set q i a
 set-behind [] q i a = let e : 0 + i ≡ i = omega arith in rw e
 set-behind (x ∷ p) q i a = let e : suc (length p) + i ≡ suc (length p + i) = omega arith in rw (e, set-behind p q i a)
 

@@ -1,7 +1,7 @@
 -- The words that the slots of the definition's sink are held in: the record of each slot's token, its texts behind the bytes used so far, with its note.
 use Prim.Native.Nat.{_%_, _*_, _+_, _-_, _<_, _≤_, suc, zero, ℕ}
 use mathlib.Core.List.{List, [], _++_, _∷_, append-assoc, append-nil, map}
-use mathlib.Core.Path.{_∙_, _≡_, ap, refl, sym}
+use mathlib.Core.Path.{_∙_, _≡_, refl, sym}
 use native.Mathlib.Omega.{arith}
 use lib.Dec.{eqb}
 use lib.ListN.{drop, length, length-append, length-drop, length-set, set}
@@ -11,10 +11,11 @@ use Rattle.yaml_lexeme.specs.declared.Token.{Token as HeldToken}
 use Rattle.yaml_lexeme.specs.Token.{Token, token-bytes}
 use Rattle.yaml_lexeme.specs.TokenLaws.{record-twelve}
 use Rattle.yaml_lexeme.specs.Held.{laid, laid-token, number-of, record-of}
-use Rattle.yaml_scan.specs.Sink.{Slot, note, slot}
+use Rattle.yaml_scan.specs.Sink.{Slot, note, note-length, slot}
 use Rattle.sink.specs.Kinds.{number-small}
 use Rattle.sink.specs.Put.{noted-word, put-note, put-note-in, put-record, put-record-in, width}
 use Rattle.sink.specs.Settle.{Rec}
+use Rattle.rooms.specs.Room.{set-behind}
 
 -- the note of tokens that go in before another: as code holds them; of the definition
 unfoldable pub note-number : List HeldToken → ℕ
@@ -116,10 +117,6 @@ held-put xs t l h =
     put-behind (noted-words 0 xs) (laid-record (used-by xs) t) l (length xs) (noted-length 0 xs) (record-twelve (laid-token (used-by xs) t)) h
     ∙ rw (m, length-more xs (slot t []))
 
-set-behind : (p q : List ℕ) (i a : ℕ) → set (p ++ q) (length p + i) a ≡ p ++ set q i a
-set-behind [] q i a = let e : 0 + i ≡ i = omega arith in rw e
-set-behind (x ∷ p) q i a = let e : suc (length p) + i ≡ suc (length p + i) = omega arith in rw (e, set-behind p q i a)
-
 note-there : (n used : ℕ) (ts : List Token) (xs : List Slot) (l : List ℕ) → n < length xs
     → set (noted-words used xs ++ l) (n * width) (noted-word (noted-words used xs ++ l) (n * width) (note-of ts)) ≡ noted-words used (note n ts xs) ++ l
 unfolding noted-words note record-of
@@ -135,12 +132,6 @@ note-there (suc n) used ts (x ∷ xs) l h =
     let e : suc n * width ≡ length r + n * width = (let f = noted-twelve used x in omega arith) in
     rw (append-assoc r w l, e, getD-append-add r (w ++ l) (n * width) 0, set-behind r (w ++ l) (n * width), note-there n u ts xs l (omega arith))
     (sym (append-assoc r (noted-words u (note n ts xs)) l))
-
-pub note-length : (n : ℕ) (ts : List Token) (xs : List Slot) → length (note n ts xs) ≡ length xs
-unfolding note
-note-length n ts [] = refl
-note-length zero ts (x ∷ xs) = refl
-note-length (suc n) ts (x ∷ xs) = ap suc (note-length n ts xs)
 
 -- (b) a note on the token of a slot
 pub held-note : (n : ℕ) (ts : List Token) (xs : List Slot) (l : List ℕ) → n < length xs → length xs * width ≤ length l

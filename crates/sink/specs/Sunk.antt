@@ -9,13 +9,13 @@ use Rattle.yaml_lexeme.specs.Token.{Kind, Token, empty-token, texts, token-byte
 use Rattle.yaml_lexeme.specs.Held.{records}
 use Rattle.yaml_scan.specs.State.{Event, put, put-before, puts}
 use Rattle.yaml_scan.specs.Scan.{settled}
-use Rattle.yaml_scan.specs.Candidates.{EmptyAt, Free, Given, Placed, fresh, given, note-at}
-use Rattle.yaml_scan.specs.Sink.{Holds, Slot, note, slot, sunk, sunk-holds, sunk-settled}
+use Rattle.yaml_scan.specs.Candidates.{EmptyAt, Free, Given, Placed, fresh, note-at}
+use Rattle.yaml_scan.specs.Sink.{Holds, Slot, holds-more, holds-noted, note, note-length, slot, sunk, sunk-length, sunk-settled}
 use Rattle.states.specs.Say.{event-texts}
 use Rattle.sink.specs.Put.{put-note, put-record, width}
 use Rattle.sink.specs.Settle.{front, note-kinds, settled-words, total}
 use Rattle.sink.specs.Flat.{AllReady, AllSilent, flat-least, flat-texts, held-settled, note-silent}
-use Rattle.sink.specs.Slots.{held, held-note, held-put, laid-record, laid-tokens, length-more, note-length, note-number, note-of, noted-words, slot-texts, used-by}
+use Rattle.sink.specs.Slots.{held, held-note, held-put, laid-record, laid-tokens, length-more, note-number, note-of, noted-words, slot-texts, used-by}
 
 -- the words after these events, n tokens and so many bytes of text having come before
 unfoldable pub sunk-words : List ℕ → ℕ → ℕ → List Event → List ℕ
@@ -53,14 +53,6 @@ notes-append (put-before k ts ∷ es) fs h g = (h .0, notes-append es fs (h .1) 
 
 -- one event, as the definition's laws have it
 
-holds-put : (gs : List Given) (xs : List Slot) (t : Token) → Holds gs xs → Holds (gs ++ (fresh (t .start) ∷ [])) (xs ++ (slot t [] ∷ []))
-unfolding sunk given
-holds-put gs xs t = sunk-holds gs xs (put t ∷ [])
-
-holds-note : (gs : List Given) (xs : List Slot) (n : ℕ) (ts : List Token) → Holds gs xs → Holds (note-at n gs) (note n ts xs)
-unfolding sunk given
-holds-note gs xs n ts = sunk-holds gs xs (put-before n ts ∷ [])
-
 holds-length : (gs : List Given) (xs : List Slot) → Holds gs xs → length gs ≡ length xs
 holds-length [] [] h = refl
 holds-length [] (x ∷ xs) h = absurd h
@@ -91,17 +83,11 @@ ready-note (g ∷ gs) (x ∷ xs) (suc n) m ts h f e k r = (r .0, ready-note gs x
 sunk-ready : (es : List Event) (gs : List Given) (xs : List Slot) → Holds gs xs → Placed gs es → Notes es → AllReady xs → AllReady (sunk xs es)
 unfolding Placed Notes sunk
 sunk-ready [] gs xs h p k r = r
-sunk-ready (put t ∷ es) gs xs h p k r = sunk-ready es (gs ++ (fresh (t .start) ∷ [])) (xs ++ (slot t [] ∷ [])) (holds-put gs xs t h) p k (ready-put xs t r)
+sunk-ready (put t ∷ es) gs xs h p k r = sunk-ready es (gs ++ (fresh (t .start) ∷ [])) (xs ++ (slot t [] ∷ [])) (holds-more gs xs t h) p k (ready-put xs t r)
 sunk-ready (put-before n ts ∷ es) gs xs h p k r =
-    sunk-ready es (note-at n gs) (note n ts xs) (holds-note gs xs n ts h) (p .3) (k .1) (ready-note gs xs n (p .0) ts h (p .1) (p .2) (k .0) r)
+    sunk-ready es (note-at n gs) (note n ts xs) (holds-noted gs xs n ts h) (p .3) (k .1) (ready-note gs xs n (p .0) ts h (p .1) (p .2) (k .0) r)
 
 -- the words hold the slots
-
-pub sunk-length : (es : List Event) (xs : List Slot) → length (sunk xs es) ≡ length xs + puts es
-unfolding sunk puts
-sunk-length [] xs = omega arith
-sunk-length (put t ∷ es) xs = let e = sunk-length es (xs ++ (slot t [] ∷ [])) in let f = length-more xs (slot t []) in omega arith
-sunk-length (put-before n ts ∷ es) xs = sunk-length es (note n ts xs) ∙ rw (note-length n ts xs)
 
 texts-put : (xs : List Slot) (t : Token) → slot-texts (xs ++ (slot t [] ∷ [])) ≡ slot-texts xs ++ token-bytes t
 unfolding slot-texts
@@ -136,19 +122,19 @@ unfolding Placed Notes sunk sunk-words
 sunk-held [] gs xs l h p k r = refl
 sunk-held (put t ∷ es) gs xs l h p k r =
     let ys = xs ++ (slot t [] ∷ []) in
-    let e = sunk-length es ys in
+    let e = sunk-length ys es in
     let f = length-more xs (slot t []) in
     let g : suc (length xs) * width ≤ length l = omega arith in
     let u : used-by xs + length (token-bytes t) ≡ used-by ys = sym (ap length (texts-put xs t) ∙ length-append (slot-texts xs) (token-bytes t)) in
-    rw (held-put xs t l g, sym f, u) (sunk-held es (gs ++ (fresh (t .start) ∷ [])) ys l (holds-put gs xs t h) p k r)
+    rw (held-put xs t l g, sym f, u) (sunk-held es (gs ++ (fresh (t .start) ∷ [])) ys l (holds-more gs xs t h) p k r)
 sunk-held (put-before n ts ∷ es) gs xs l h p k r =
     let ys = note n ts xs in
-    let e = sunk-length es ys in
+    let e = sunk-length ys es in
     let f = note-length n ts xs in
     let g : length xs * width ≤ length l = omega arith in
     let i : n < length xs = omega (arith, p .1 .0, holds-length gs xs h) in
     rw (same-note (used-by xs) ts (k .0), held-note n ts xs l i g, sym f, sym (texts-note n ts xs))
-    (sunk-held es (note-at n gs) ys l (holds-note gs xs n ts h) (p .3) (k .1) r)
+    (sunk-held es (note-at n gs) ys l (holds-noted gs xs n ts h) (p .3) (k .1) r)
 
 -- the whole run: its events sunk into the words l, then the pass
 pub record Sinks (es : List Event) (l : List ℕ) : Type 0 where
@@ -164,7 +150,7 @@ module _ (es : List Event) (placed : Placed [] es) (notes : Notes es) where
   unfolding noted-words slot-texts
   sinks l h =
       let xs = sunk [] es in
-      let e : length xs ≡ puts es = (let a = sunk-length es [] in omega arith) in
+      let e : length xs ≡ puts es = (let a = sunk-length [] es in omega arith) in
       let f = ap length (sunk-settled es) in
       let g : length xs * width ≤ length l = omega (arith, flat-least xs) in
       let r = rw (sym (sunk-held es [] [] l tt placed notes g), sunk-settled es, e) at (held-settled xs l slots-ready) in

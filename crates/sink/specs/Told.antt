@@ -140,7 +140,7 @@ in-opened opening.FlowMappingStart m t = refl
 in-opened opening.FlowMappingEnd m t = refl
 
 in-note : (m : Mark) (o : Note) → said-in (noted-of m o) ≡ note-size o
-unfolding said-in noted-of note-size
+unfolding said-in noted-of
 in-note m Nothing = refl
 in-note m (Key n) = refl
 in-note m (Pair n) = refl

@@ -50,7 +50,6 @@ abbrev tokens : List ℕ
 tokens = 1 ∷ 2 ∷ 3 ∷ 4 ∷ []
 
 pub one-token : (o : Opening) → OneOf tokens (tagOf openings.the-type o) → 1 ≡ opening-size o
-unfolding opening-size
 one-token opening.Nothing h = absurd (miss tokens 0 tt h)
 one-token opening.BlockSequenceStart h = refl
 one-token opening.BlockMappingStart h = refl

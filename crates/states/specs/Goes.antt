@@ -67,7 +67,6 @@ written-none used before (refused k m) e = refl
 -- counts that are small count any event of a fetcher
 
 opening-few : (o : Opening) → opening-size o ≤ 1
-unfolding opening-size
 opening-few opening.Nothing = omega arith
 opening-few opening.BlockSequenceStart = omega arith
 opening-few opening.BlockMappingStart = omega arith
@@ -75,7 +74,6 @@ opening-few opening.FlowMappingStart = omega arith
 opening-few opening.FlowMappingEnd = omega arith
 
 note-few : (n : Note) → note-size n ≤ 2
-unfolding note-size
 note-few note.Nothing = omega arith
 note-few (note.Key n) = omega arith
 note-few (note.Pair n) = omega arith

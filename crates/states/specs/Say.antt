@@ -21,13 +21,13 @@ use Rattle.states.specs.declared.Fetched.{Fetched}
 use Rattle.states.specs.declared.Fetched.the-variants as fetched
 use Rattle.states.specs.State.{state-of}
 
-unfoldable pub note-size : Note → ℕ
+abbrev pub note-size : Note → ℕ
 note-size note.Nothing = 0
 note-size (note.Key n) = 1
 note-size (note.Pair n) = 2
 note-size (note.Block n) = 2
 
-unfoldable pub opening-size : Opening → ℕ
+abbrev pub opening-size : Opening → ℕ
 opening-size opening.Nothing = 0
 opening-size opening.BlockSequenceStart = 1
 opening-size opening.BlockMappingStart = 1

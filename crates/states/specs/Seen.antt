@@ -1,11 +1,11 @@
 -- What the definition sees of a state.
 use Prim.Native.Nat.{_≤_, suc, zero, ℕ}
-use mathlib.Core.Bool.{Bool, false, true}
+use mathlib.Core.Bool.{Bool, false, not, true}
 use mathlib.Core.List.{List, [], _∷_}
 use mathlib.Core.Path.{_≡_, refl, sym}
 use native.Mathlib.Omega.{arith}
 use lib.Dec.{eqb, ltb}
-use borrow.Author.Tests.{eqb-false, eqb-true, lt-ltb}
+use borrow.Author.Tests.{eqb-false, eqb-true, lt-ltb, ltb-false, ltb-true, ne-eqb}
 use Rattle.yaml_text.specs.Test.{by-test}
 use Rattle.yaml_scan.specs.declared.Candidate.{Candidate}
 use Rattle.yaml_scan.specs.declared.Level.{Level}
@@ -22,6 +22,12 @@ some-seen : (frames : List ℕ) (d : ℕ) → some-level (frame-levels frames d)
 unfolding some-level frame-levels
 some-seen frames zero = refl
 some-seen frames (suc d) = sym (lt-ltb 0 (suc d) (omega arith))
+
+pub level-zero : (d : ℕ) → not (ltb 0 d) ≡ eqb d 0
+level-zero d =
+    by-test (ltb 0 d)
+    (λ e. let l = ltb-true 0 d e in rw (e, ne-eqb d 0 (omega arith)))
+    (λ e. let l = ltb-false 0 d e in let z : d ≡ 0 = omega arith in rw z)
 
 module _ (text entries frames : List ℕ) (count : ℕ) (s : State) where
   pub in-flow-seen : in-flow (state-of text entries frames count s) ≡ ltb 0 (s .depth)

@@ -100,7 +100,7 @@ ends-bytes zero m = refl
 ends-bytes (suc n) m = let e = ends-bytes n m in omega arith
 
 opened-puts : (m : Mark) (o : Opening) → said-sum one (opened-of m o) ≡ opening-size o
-unfolding said-sum opened-of opening-size
+unfolding said-sum opened-of
 opened-puts m opening.Nothing = refl
 opened-puts m opening.BlockSequenceStart = refl
 opened-puts m opening.BlockMappingStart = refl

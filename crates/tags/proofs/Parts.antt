@@ -18,6 +18,7 @@ use Rattle.yaml_text.specs.Mark as definition
 use Rattle.yaml_text.specs.Pick.{pick}
 use Rattle.yaml_text.specs.Refusal.{_>>=_, got, need, refused}
 use Rattle.yaml_text.specs.Utf8.{bytesOf, chars, encode}
+use Rattle.yaml_text.specs.Utf8Laws.{encode-append}
 use Rattle.yaml_lexeme.specs.Tag.{handled, primary, uri-at, verbatim}
 use Rattle.yaml_lexeme.specs.Token.{size}
 use Rattle.chars.specs.declared.mark.Place.{Place}
@@ -29,7 +30,7 @@ use Rattle.chars.specs.View.{Stands, past, view}
 use Rattle.reading.specs.Reading.{first-at}
 use Rattle.words.specs.declared.Run.{Run}
 use Rattle.words.specs.declared.Run.the-variants as run
-use Rattle.words.specs.Encode.{encode-append, none-size}
+use Rattle.words.specs.Encode.{none-size}
 use Rattle.words.specs.Run.{Writes}
 use Rattle.words.specs.RunLaws.{ran, run-refused}
 use Rattle.tags.specs.declared.tag.Texts.{Texts}

@@ -1,13 +1,13 @@
 -- Laws of nested tokens: one list behind another; the tokens of slots, where events give one more or put some in before one that was given (for Nesting).
 use Prim.Native.Nat.{_+_, _<_, _≤_, suc, zero, ℕ}
 use mathlib.Core.List.{List, [], _++_, _∷_, append-assoc}
-use mathlib.Core.Path.{_≡_, ap, refl}
+use mathlib.Core.Path.{_≡_, refl}
 use native.Mathlib.Omega.{arith}
 use lib.ListN.{drop, length, length-append}
 use lib.Seq.{drop-append-le}
 use Rattle.yaml_lexeme.specs.Token.{Token}
 use Rattle.yaml_lexeme.specs.Role.{Open, Role, role}
-use Rattle.yaml_scan.specs.State.{Event, put, put-before, puts}
+use Rattle.yaml_scan.specs.State.{Event, put, put-before}
 use Rattle.yaml_scan.specs.Sink.{Slot, flat, note, slot, sunk}
 use Rattle.theorems.specs.Nested.{Nested, Turns, closed, done, ended, kept, opened, then}
 
@@ -60,18 +60,6 @@ unfolding sunk
 sunk-append xs [] fs = refl
 sunk-append xs (put t ∷ es) fs = sunk-append (xs ++ (slot t [] ∷ [])) es fs
 sunk-append xs (put-before n ts ∷ es) fs = sunk-append (note n ts xs) es fs
-
-note-length : (n : ℕ) (ts : List Token) (xs : List Slot) → length (note n ts xs) ≡ length xs
-unfolding note
-note-length n ts [] = refl
-note-length zero ts (x ∷ xs) = refl
-note-length (suc n) ts (x ∷ xs) = ap suc (note-length n ts xs)
-
-pub sunk-length : (xs : List Slot) (es : List Event) → length (sunk xs es) ≡ length xs + puts es
-unfolding sunk puts
-sunk-length xs [] = omega arith
-sunk-length xs (put t ∷ es) = omega (arith, sunk-length (xs ++ (slot t [] ∷ [])) es, length-append xs (slot t [] ∷ []))
-sunk-length xs (put-before n ts ∷ es) = omega (arith, sunk-length (note n ts xs) es, note-length n ts xs)
 
 -- the tokens from slot k on
 abbrev pub since : ℕ → List Slot → List Token

@@ -23,10 +23,10 @@ use Rattle.yaml_scan.specs.Keys.{set-key, top-key}
 use Rattle.yaml_scan.specs.State.{Event, State, block-ends, empty-if, in-flow, mark-of, on-level, put, put-before, puts, save-key, unroll-to}
 use Rattle.yaml_scan.specs.Bracket.{closes-level, implicit-open, new-entry}
 use Rattle.yaml_scan.specs.Choice.{all-ends}
-use Rattle.yaml_scan.specs.Sink.{Slot, note, sunk}
+use Rattle.yaml_scan.specs.Sink.{Slot, note, sunk, sunk-length}
 use Rattle.yaml_scan.specs.Moves.{Begins, Enters, Move, Tidy, Within, begins, block-start, bracket, closes, goes-in, leaves, opens, parts, tells, uses}
 use Rattle.theorems.specs.Nested.{Nested, closed, done, kept, opened, then}
-use Rattle.theorems.specs.NestedLaws.{Leads, and-put, says-append, says-one, silent, sunk-length}
+use Rattle.theorems.specs.NestedLaws.{Leads, and-put, says-append, says-one, silent}
 use Rattle.theorems.specs.Opened.{Built, Goes, Stays, Turned, blocks, built-saved, built-says, built-top, built-used, built-without, held, inside, leads-says, outside, turned-over}
 
 -- what the events of a move turn

@@ -1,8 +1,8 @@
 -- A run leaves what is open nested: each gap, each move and the end, from the front (for Nesting).
-use Prim.Native.Nat.{_<_, suc, zero, ℕ}
+use Prim.Native.Nat.{_<_, ℕ}
 use mathlib.Core.Bool.{false, true}
 use mathlib.Core.List.{List, [], _++_, _∷_}
-use mathlib.Core.Path.{_∙_, _≡_, ap, refl, sym}
+use mathlib.Core.Path.{_∙_, _≡_, refl, sym}
 use native.Mathlib.Nat.{le-refl}
 use native.Mathlib.Omega.{arith}
 use lib.ListN.{length}
@@ -19,15 +19,16 @@ use Rattle.yaml_scan.specs.declared.Limits.{Limits}
 use Rattle.yaml_scan.specs.Indent.{Indents, unroll}
 use Rattle.yaml_scan.specs.IndentLaws.{Rises, Same, open-blocks, same-refl, unroll-all, unroll-blocks, unroll-none, unroll-rises, unroll-within}
 use Rattle.yaml_scan.specs.Keys.{top-key}
-use Rattle.yaml_scan.specs.State.{Event, State, block-ends, ends-with, goes-on, in-flow, mark-of, put, puts, unroll-to}
+use Rattle.yaml_scan.specs.State.{Event, State, block-ends, ends-with, goes-on, in-flow, mark-of, put, unroll-to}
 use Rattle.yaml_scan.specs.Scan.{outcome, scanned, settled, unrolled}
 use Rattle.yaml_scan.specs.Candidates.{Over}
-use Rattle.yaml_scan.specs.Sink.{Slot, flat, slot, sunk, sunk-settled}
+use Rattle.yaml_scan.specs.Sink.{Slot, flat, slot, sunk, sunk-length, sunk-settled}
 use Rattle.yaml_scan.specs.Moves.{Move, Moves, begins, closes, leaves, opens, parts, tells, uses}
 use Rattle.yaml_scan.specs.Steps.{Gapped, Takes, gapped, inside, lapses, stays, unrolled-state}
+use Rattle.yaml_scan.specs.Runs.{puts-ends}
 use Rattle.theorems.specs.Induction.{outcome-good}
 use Rattle.theorems.specs.Nested.{Nested, done, kept, then}
-use Rattle.theorems.specs.NestedLaws.{flat-append, silent, sunk-append, sunk-length}
+use Rattle.theorems.specs.NestedLaws.{flat-append, silent, sunk-append}
 use Rattle.theorems.specs.Opened.{Built, blocks, built-says, built-top, built-without, outside}
 use Rattle.theorems.specs.NestingMoves.{AtEdge, Stands, at-zero, ends-lead, ends-turn, goes-to, move-builds, zero-level}
 
@@ -54,11 +55,6 @@ gap-stands (gapped f spares (lapses e)) h = (record { counted = h .counted; rise
 gap-stands {s} (gapped f spares (stays e k)) h = (record { counted = h .counted; rises = h .rises; built = further f (built-top (h .built)) }, λ _. calm _ (top-key (s .keys)) k)
 
 -- the ends of blocks
-
-ends-puts : (n : ℕ) (m : Mark) → puts (block-ends n m) ≡ n
-unfolding puts
-ends-puts zero m = refl
-ends-puts (suc n) m = ap suc (ends-puts n m)
 
 -- at level 0; while a candidate is left none ends
 ends-build : {xs : List Slot} {ks : List Candidate} (i : Indents) (p : Place) (c : Candidate) → Calm (p .mark) c → Built i (p .mark) xs [] (length xs) (c ∷ ks) []
@@ -103,7 +99,7 @@ unrolled-stands t xs h c =
     (λ e. rw (unrolled-in t e) (record { counted = omega (arith, h .counted); rises = h .rises; built = h .built }, λ z. absurd (not-zero t e z)))
     (λ e. rw (unrolled-out t e) (
       record {
-        counted = omega (arith, h .counted, sunk-length xs (block-ends n (mark-of t)), ends-puts n (mark-of t));
+        counted = omega (arith, h .counted, sunk-length xs (block-ends n (mark-of t)), puts-ends n (mark-of t));
         rises = unroll-rises _ (t .indents .indent) (t .indents .entries) (h .rises);
         built = rw (zero-level t e) (zero-build (t .place) (c e) (rw (zero-level t e) at (h .built)));
       },

@@ -28,7 +28,7 @@ use Rattle.yaml_scan.specs.Bracket.{implicit-open}
 use Rattle.yaml_scan.specs.Choice.{all-ends}
 use Rattle.yaml_scan.specs.Scan.{outcome, scanned, settled, unrolled}
 use Rattle.yaml_scan.specs.Moves.{Begins, Enters, Move, Moves, begins, block-start, closes, goes-in, leaves, opens, pair-end, parts, tells, uses}
-use Rattle.yaml_scan.specs.Steps.{Gapped, Lapses, Takes, gapped, inside, lapses, stays, unrolled-blocks, unrolled-state}
+use Rattle.yaml_scan.specs.Steps.{Gapped, Lapses, Takes, gapped, inside, lapses, one-most, stays, unrolled-blocks, unrolled-state}
 use Rattle.theorems.specs.Induction.{outcome-good}
 use Rattle.theorems.specs.Weigh.{settled-weigh, sum, weigh, weigh-append, weigh-before, weigh-ends, weigh-if, weigh-last, weigh-one}
 
@@ -96,10 +96,6 @@ gap-paid s t fs (gapped {p = p} {leads = b} {a = a} {ks = ks} f spares l) h n =
     omega (arith, h (fits-no-nul f n), spares n, lapses-possible l, unrolled-blocks t', weigh-append one (block-ends (unrolled t' .ended) (mark-of t')) fs, weigh-ends one (unrolled t' .ended) (mark-of t') 1 refl)
 
 -- what a move costs
-
-one-most : (b : Bool) → one-if b ≤ 1
-one-most true = omega arith
-one-most false = omega arith
 
 -- a start costs its end too: in flow only a pair begins, and at level 0 only a block, before blank, break or end
 begins-most : {s : State} {q : Place} {pair : Bool} {r : Rolled} {ls : List Level} → Begins s q pair r ls

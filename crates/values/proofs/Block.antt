@@ -25,7 +25,7 @@ use Rattle.news.specs.declared.Opening.the-variants as opening
 use Rattle.states.specs.declared.State.{State}
 use Rattle.states.specs.declared.Fetched.the-variants as fetched
 use Rattle.states.specs.State.{s-with-indents, state-of}
-use Rattle.states.specs.Seen.{in-flow-seen, low-level}
+use Rattle.states.specs.Seen.{in-flow-seen, level-zero, low-level}
 use Rattle.states.specs.Say.{laid-events, said-of}
 use Rattle.states.specs.Laid.{Textless, laid-opening, laid-textless, opening-if, opens-mapping, opens-sequence, said-opening}
 use Rattle.states.specs.Laid as laid-as
@@ -33,7 +33,7 @@ use Rattle.states.specs.Fetch.{FetchesOne, Ready}
 use Rattle.states.specs.Goes.{fetch-refused}
 use Rattle.values.specs.declared.Opened.the-variants as opened
 use Rattle.values.specs.Value.{Begun, Opens, begun, event-one, goes-one, open-block, opened-seen, questioned-of}
-use Rattle.values.proofs.Levels.{level-zero, question-levels}
+use Rattle.values.proofs.Levels.{question-levels}
 use Rattle.values.proofs.One.{col-low, one-goes}
 use Rattle.values.proofs.Roll.{open-then}
 use Rattle.chars.specs.declared.mark.Place.{Place}

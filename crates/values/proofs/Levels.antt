@@ -1,12 +1,10 @@
 -- What '?' and ':' do to the current level, which is the definition's innermost one.
 use Prim.Native.Nat.{suc, zero, ℕ}
-use mathlib.Core.Bool.{Bool, not}
+use mathlib.Core.Bool.{Bool}
 use mathlib.Core.List.{List}
 use mathlib.Core.Path.{_∙_, _≡_, refl}
 use native.Mathlib.Omega.{arith}
-use lib.Dec.{eqb, ltb}
-use borrow.Author.Tests.{lt-ltb, ltb-false, ltb-true, ne-eqb}
-use Rattle.yaml_text.specs.Test.{by-test}
+use borrow.Author.Tests.{lt-ltb}
 use Rattle.yaml_scan.specs.State.{on-level}
 use Rattle.yaml_scan.specs.Value.{begins-pair, colon-seen, questioned}
 use Rattle.stacks.specs.Frame.{SetsLevel, frame-levels, level-of, with-level}
@@ -34,8 +32,3 @@ pub colon-levels : {a e : List ℕ} {pair : Bool} (d : ℕ) → SeesColon a e d 
 colon-levels {a} d w = w .sets .levels ∙ rw (w .is) (colons a d)
 
 -- level 0, by the depth
-pub level-zero : (d : ℕ) → not (ltb 0 d) ≡ eqb d 0
-level-zero d =
-    by-test (ltb 0 d)
-    (λ e. let l = ltb-true 0 d e in rw (e, ne-eqb d 0 (omega arith)))
-    (λ e. let l = ltb-false 0 d e in let z : d ≡ 0 = omega arith in rw z)

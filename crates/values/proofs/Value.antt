@@ -31,13 +31,13 @@ use Rattle.states.specs.declared.State.{State}
 use Rattle.states.specs.declared.Fetched.{Fetched}
 use Rattle.states.specs.declared.Fetched.the-variants as fetched
 use Rattle.states.specs.State.{KeysLow, key-mark, s-with-indents}
-use Rattle.states.specs.Seen.{in-flow-seen, low-key, low-level, top-seen}
+use Rattle.states.specs.Seen.{in-flow-seen, level-zero, low-key, low-level, top-seen}
 use Rattle.states.specs.Say.{laid-events, noted-of, opened-of, said-of}
 use Rattle.states.specs.Laid.{Textless}
 use Rattle.states.specs.Fetch.{FetchesOne, Ready}
 use Rattle.states.specs.Goes.{fetch-refused}
 use Rattle.values.specs.Value.{RollsAt, SeesColon, event-one, goes-one, note-by, pair-of, start-by}
-use Rattle.values.proofs.Levels.{colon-levels, level-zero, pair-levels}
+use Rattle.values.proofs.Levels.{colon-levels, pair-levels}
 use Rattle.values.proofs.One.{col-low, one-goes}
 use Rattle.values.proofs.Roll.{roll-seen}
 use Rattle.values.proofs.Block.{key-may, key-not}

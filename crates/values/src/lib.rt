@@ -1,6 +1,5 @@
 // K4: '-' and '?'. K5: ':'.
 ghost use mathlib.Core.Path.{_≡_};
-ghost use mathlib.Core.List.{List};
 ghost use Prim.Native.Nat.{_*_, _+_, _≤_};
 ghost use lib.ListN.{length};
 ghost use Rattle.yaml_scan.specs.declared.Candidate.the-variants as candidate;

@@ -1,6 +1,6 @@
 -- Texts and their bytes.
 use Prim.Native.Nat.{_<_, _≤_, ℕ}
-use mathlib.Core.List.{List, [], _++_, _∷_, append-assoc, append-nil}
+use mathlib.Core.List.{List, [], _++_, _∷_, append-nil}
 use mathlib.Core.Path.{_∙_, _≡_, refl, sym}
 use native.Mathlib.Omega.{arith}
 use lib.Dec.{eqb, ltb}
@@ -11,11 +11,6 @@ use Rattle.yaml_text.specs.Test.{by-pick}
 use Rattle.yaml_text.specs.Utf8.{bytesOf, encode}
 use Rattle.yaml_text.specs.Utf8Laws.{bytes1}
 use Rattle.yaml_lexeme.specs.Token.{size}
-
-pub encode-append : (s t : List ℕ) → encode (s ++ t) ≡ encode s ++ encode t
-unfolding encode
-encode-append [] t = refl
-encode-append (c ∷ s) t = rw (encode-append s t) (sym (append-assoc (bytesOf c) (encode s) (encode t)))
 
 pub encode-one : (c : ℕ) → encode (c ∷ []) ≡ bytesOf c
 unfolding encode

@@ -13,13 +13,14 @@ use Rattle.yaml_text.specs.Class.{none-left}
 use Rattle.yaml_text.specs.Mark as definition
 use Rattle.yaml_text.specs.Refusal.{Read, before-read, got, refused}
 use Rattle.yaml_text.specs.Utf8.{encode}
+use Rattle.yaml_text.specs.Utf8Laws.{encode-append}
 use Rattle.yaml_lexeme.specs.Token.{size}
 use Rattle.chars.specs.declared.mark.Place.{Place}
 use Rattle.chars.specs.Parts.{Spans}
 use Rattle.chars.specs.View.{Stands, view}
 use Rattle.words.specs.declared.Run.{Run}
 use Rattle.words.specs.declared.Run.the-variants.{Refused, To}
-use Rattle.words.specs.Encode.{encode-append, none-size}
+use Rattle.words.specs.Encode.{none-size}
 use Rattle.words.specs.Run.{Writes, Written, seen-run, written}
 
 -- the text of a run that was passed over takes the bytes between

@@ -118,7 +118,7 @@ abbrev pub Stepped : List Given → State → News → Type 0
 Stepped gs s (goes-on es t) = Goes gs s es t
 Stepped gs s (ends-with es) = Sound gs s → Placed gs es
 
-puts-ends : (n : ℕ) (m : Mark) → puts (block-ends n m) ≡ n
+pub puts-ends : (n : ℕ) (m : Mark) → puts (block-ends n m) ≡ n
 unfolding puts
 puts-ends zero m = refl
 puts-ends (suc n) m = ap suc (puts-ends n m)

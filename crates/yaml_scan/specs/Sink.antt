@@ -11,7 +11,7 @@ use Rattle.yaml_text.specs.declared.Mark.{Mark}
 use Rattle.yaml_text.specs.Test.{true-false}
 use Rattle.yaml_lexeme.specs.Token.{Token}
 use Rattle.yaml_scan.specs.declared.Limits.{Limits}
-use Rattle.yaml_scan.specs.State.{Event, put, put-before}
+use Rattle.yaml_scan.specs.State.{Event, put, put-before, puts}
 use Rattle.yaml_scan.specs.Scan.{noted, outcome, scanned, settled}
 use Rattle.yaml_scan.specs.Candidates.{Free, Given, Placed, fresh, given, note-at}
 use Rattle.yaml_scan.specs.Budget.{outcome-placed}
@@ -93,13 +93,25 @@ Holds [] (x ∷ xs) = ⊥
 Holds (g ∷ gs) [] = ⊥
 Holds (g ∷ gs) (x ∷ xs) = (x .token .start ≡ g .start) × (g .noted ≡ false → x .before ≡ []) × Holds gs xs
 
-holds-more : (gs : List Given) (xs : List Slot) (t : Token) → Holds gs xs → Holds (gs ++ (fresh (t .start) ∷ [])) (xs ++ (slot t [] ∷ []))
+pub note-length : (n : ℕ) (ts : List Token) (xs : List Slot) → length (note n ts xs) ≡ length xs
+unfolding note
+note-length n ts [] = refl
+note-length zero ts (x ∷ xs) = refl
+note-length (suc n) ts (x ∷ xs) = ap suc (note-length n ts xs)
+
+pub sunk-length : (xs : List Slot) (es : List Event) → length (sunk xs es) ≡ length xs + puts es
+unfolding sunk puts
+sunk-length xs [] = omega arith
+sunk-length xs (put t ∷ es) = omega (arith, sunk-length (xs ++ (slot t [] ∷ [])) es, length-append xs (slot t [] ∷ []))
+sunk-length xs (put-before n ts ∷ es) = omega (arith, sunk-length (note n ts xs) es, note-length n ts xs)
+
+pub holds-more : (gs : List Given) (xs : List Slot) (t : Token) → Holds gs xs → Holds (gs ++ (fresh (t .start) ∷ [])) (xs ++ (slot t [] ∷ []))
 holds-more [] [] t h = (refl, λ _. refl, tt)
 holds-more [] (x ∷ xs) t h = absurd h
 holds-more (g ∷ gs) [] t h = absurd h
 holds-more (g ∷ gs) (x ∷ xs) t h = (h .0, h .1, holds-more gs xs t (h .2))
 
-holds-noted : (gs : List Given) (xs : List Slot) (n : ℕ) (ts : List Token) → Holds gs xs → Holds (note-at n gs) (note n ts xs)
+pub holds-noted : (gs : List Given) (xs : List Slot) (n : ℕ) (ts : List Token) → Holds gs xs → Holds (note-at n gs) (note n ts xs)
 unfolding note
 holds-noted [] [] n ts h = tt
 holds-noted [] (x ∷ xs) n ts h = absurd h

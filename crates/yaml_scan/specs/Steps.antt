@@ -45,7 +45,7 @@ pub data Gapped (s : State) : State → Type 0 where
   gapped : {p : Place} {leads a : Bool} {ks : List Candidate} → Fits (s .place) p → (NoNul (rest-of s) → Spares (s .place) p) → Lapses s (p .mark) ks
       → Gapped s (with-keys ks (at-place p leads (allow a s)))
 
-one-most : (b : Bool) → one-if b ≤ 1
+pub one-most : (b : Bool) → one-if b ≤ 1
 one-most b = by-pick (λ (n : ℕ). n ≤ 1) b _ _ (omega arith) (omega arith)
 
 no-gap : (c : ℕ) → isBreak c ≡ false → isBlank c ≡ false → isZ c ≡ false → isBlankOrBreakz c ≡ false

@@ -1,7 +1,7 @@
 -- Laws of UTF-8: what a loop over characters cites, and that a decoded character encodes to the bytes that it was read from.
 use Prim.Native.Nat.{_%_, _*_, _+_, _<_, _≤_, min, pred, suc, zero, ℕ}
 use mathlib.Core.Bool.{Bool, _&&_, _||_, false, true}
-use mathlib.Core.List.{List, [], _∷_}
+use mathlib.Core.List.{List, [], _++_, _∷_, append-assoc}
 use mathlib.Core.Path.{_∙_, _≡_, ap, refl, sym}
 use native.Mathlib.Omega.{arith}
 use lib.Dec.{leb, ltb}
@@ -11,7 +11,7 @@ use borrow.Author.Tests.{le-ltb, leb-true, lt-ltb, ltb-false, ltb-true}
 use Rattle.yaml_text.specs.declared.Decoded.{Decoded}
 use Rattle.yaml_text.specs.declared.Decoded.the-variants.{Char, End, Ill}
 use Rattle.yaml_text.specs.Test.{both-true, on-pick}
-use Rattle.yaml_text.specs.Utf8.{byLen, bytesOf, charIf, chars, charsAfter, first, four, isScalar, isTail, lenOf, more, three, two}
+use Rattle.yaml_text.specs.Utf8.{byLen, bytesOf, charIf, chars, charsAfter, encode, first, four, isScalar, isTail, lenOf, more, three, two}
 
 -- the character at a place
 
@@ -268,3 +268,8 @@ pub good-end : (l : List ℕ) → first l ≡ End → good l ≡ 0
 unfolding goodAfter first
 good-end [] e = refl
 good-end (a ∷ t) e = ap (λ (d : Decoded). goodStep d (λ m. goodAfter m t)) e
+
+pub encode-append : (s t : List ℕ) → encode (s ++ t) ≡ encode s ++ encode t
+unfolding encode
+encode-append [] t = refl
+encode-append (c ∷ s) t = rw (encode-append s t) (sym (append-assoc (bytesOf c) (encode s) (encode t)))

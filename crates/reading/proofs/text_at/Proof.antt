@@ -1,7 +1,4 @@
-use mathlib.Core.Path.{ap}
-use Prim.Native.Nat.{ℕ}
 use borrow.Author.Needs.{needs}
-use Rattle.yaml_lexeme.specs.declared.Text.{Text}
 use Rattle.reading.proofs.text_at.Statement.{statement}
 use Rattle.reading.proofs.text_at.Tie as tie
 

@@ -1,5 +1,4 @@
 use borrow.Author.Needs.{needs}
-use Rattle.states.specs.Say.{opening-size}
 use Rattle.states.proofs.Sizes.{one-token}
 use Rattle.states.proofs.opening_count.Statement.{statement}
 use Rattle.states.proofs.opening_count.Tie as tie
@@ -8,7 +7,6 @@ enum-told : tie.Need-enum-told
 enum-told c = search needs
 
 returns : tie.Need-returns
-unfolding opening-size
 returns c = rw (c .enum-told .given .1)
 
 returns-2 : tie.Need-returns-2
