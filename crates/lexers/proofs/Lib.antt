@@ -1,0 +1,4 @@
+pub mod Lent
+pub mod Read
+pub mod Saved
+pub mod Left

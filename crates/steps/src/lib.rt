@@ -1,0 +1,126 @@
+// K3: one token, by which lexeme stands here.
+ghost use mathlib.Core.Path.{_≡_};
+ghost use Prim.Native.Nat.{_<_, _^_};
+ghost use Rattle.yaml_scan.specs.declared.Choice.the-variants.{AtComma};
+ghost use Rattle.chars.specs.View.{Stands};
+ghost use Rattle.states.specs.Fetch.{Ready};
+ghost use Rattle.steps.specs.Step.{Chosen, FetchesContent, Lexical, Steps};
+use brackets::fetch_flow_collection_end;
+use brackets::fetch_flow_collection_start;
+use brackets::fetch_flow_entry;
+use choices::choice::choice;
+use lexers::fetch_anchor;
+use lexers::fetch_block_scalar;
+use lexers::fetch_directive;
+use lexers::fetch_flow_scalar;
+use lexers::fetch_plain_scalar;
+use lexers::fetch_tag;
+use markers::fetch_byte_order_mark;
+use markers::fetch_document_indicator;
+use markers::fetch_stream_end;
+use states::Counts;
+use states::Fetched;
+use states::State;
+use states::refuse;
+use values::fetch_block_entry;
+use values::fetch_key;
+use values::fetch_value;
+use yaml_scan::Choice;
+use yaml_scan::Limits;
+
+// The lexemes that hold text, given the text from there on.
+fn fetch_content(
+    text: &[u8],
+    c: Choice,
+    s: State,
+    n: Counts,
+    entries: &[u32],
+    frames: &mut [u32],
+    bytes: &mut [u8],
+) -> Fetched
+    requires { ⌜ Lexical (now text) (now entries) (now frames) (n .used) s c ⌝ }
+    ensures { λ r. ⌜ FetchesContent (now (text .entry)) (now (entries .entry)) (now (frames .entry)) (now (frames .exit)) (now (bytes .entry)) (now (bytes .exit)) (n .count) (n .used) s c r ⌝ }
+{
+    match c {
+        Choice::AtDirective => fetch_directive(text, s, n, entries, frames, bytes),
+        Choice::AtTag => fetch_tag(text, s, n, entries, frames, bytes),
+        Choice::AtAnchor(alias) => fetch_anchor(text, alias, s, n, entries, frames, bytes),
+        Choice::AtBlock(literal) => fetch_block_scalar(text, literal, s, n, entries, frames, bytes),
+        Choice::AtQuoted(single) => fetch_flow_scalar(text, single, s, n, entries, frames, bytes),
+        _ => fetch_plain_scalar(text, s, n, entries, frames, bytes),
+    }
+}
+
+// All lexemes but ',', and the refusals 42 and 43.
+fn fetch_other(
+    limits: Limits,
+    text: &[u8],
+    c: Choice,
+    s: State,
+    n: Counts,
+    entries: &mut [u32],
+    frames: &mut [u32],
+    bytes: &mut [u8],
+) -> Fetched
+    requires { ⌜ Chosen limits (now text) (now entries) (now frames) (n .used) s c × (c ≡ AtComma → ⊥) ⌝ }
+    ensures { λ r. ⌜ Steps limits (now (text .entry)) (now (entries .entry)) (now (frames .entry)) (now (entries .exit)) (now (frames .exit)) (now (bytes .entry)) (now (bytes .exit)) (n .count) (n .used) s r ⌝ }
+{
+    let at = s.place.at;
+    match c {
+        Choice::AtEnd => fetch_stream_end(s, entries, frames),
+        Choice::AtByteOrderMark => fetch_byte_order_mark(s, entries, frames),
+        Choice::BelowIndent => refuse(42, s.place.mark),
+        Choice::Stray => refuse(43, s.place.mark),
+        Choice::AtMarker(starts) => {
+            fetch_document_indicator(&text[at..], starts, s, entries, frames)
+        }
+        Choice::Opens(sequence) => {
+            fetch_flow_collection_start(limits, &text[at..], sequence, s, n.count, entries, frames)
+        }
+        Choice::Closes(sequence) => fetch_flow_collection_end(&text[at..], sequence, s, frames),
+        Choice::AtDash => fetch_block_entry(limits, s, entries, frames),
+        Choice::AtQuestion => fetch_key(limits, s, entries, frames),
+        Choice::AtColon => fetch_value(limits, s, entries, frames),
+        _ => fetch_content(&text[at..], c, s, n, entries, frames, bytes),
+    }
+}
+
+// The lexeme that stands here. The commonest have their own way: what is called twice is not inlined.
+fn fetch(
+    limits: Limits,
+    text: &[u8],
+    c: Choice,
+    s: State,
+    n: Counts,
+    entries: &mut [u32],
+    frames: &mut [u32],
+    bytes: &mut [u8],
+) -> Fetched
+    requires { ⌜ Chosen limits (now text) (now entries) (now frames) (n .used) s c ⌝ }
+    ensures { λ r. ⌜ Steps limits (now (text .entry)) (now (entries .entry)) (now (frames .entry)) (now (entries .exit)) (now (frames .exit)) (now (bytes .entry)) (now (bytes .exit)) (n .count) (n .used) s r ⌝ }
+{
+    let at = s.place.at;
+    match c {
+        Choice::AtPlain => fetch_plain_scalar(&text[at..], s, n, entries, frames, bytes),
+        Choice::AtComma => fetch_flow_entry(&text[at..], s, frames),
+        Choice::AtEnd => fetch_other(limits, text, c, s, n, entries, frames, bytes),
+        _ => fetch_other(limits, text, c, s, n, entries, frames, bytes),
+    }
+}
+
+// One token, from a state before it.
+pub fn fetch_next(
+    limits: Limits,
+    text: &[u8],
+    s: State,
+    n: Counts,
+    entries: &mut [u32],
+    frames: &mut [u32],
+    bytes: &mut [u8],
+) -> Fetched
+    requires { ⌜ Ready limits (now entries) (now frames) s × Stands (now text) (s .place) × (n .used < 2 ^ 31) ⌝ }
+    ensures { λ r. ⌜ Steps limits (now (text .entry)) (now (entries .entry)) (now (frames .entry)) (now (entries .exit)) (now (frames .exit)) (now (bytes .entry)) (now (bytes .exit)) (n .count) (n .used) s r ⌝ }
+{
+    let c = choice(text, s);
+    fetch(limits, text, c, s, n, entries, frames, bytes)
+}
