@@ -66,14 +66,14 @@ written-none used before (refused k m) e = refl
 
 -- counts that are small count any event of a fetcher
 
-opening-few : (o : Opening) → opening-size o ≤ 1
+pub opening-few : (o : Opening) → opening-size o ≤ 1
 opening-few opening.Nothing = omega arith
 opening-few opening.BlockSequenceStart = omega arith
 opening-few opening.BlockMappingStart = omega arith
 opening-few opening.FlowMappingStart = omega arith
 opening-few opening.FlowMappingEnd = omega arith
 
-note-few : (n : Note) → note-size n ≤ 2
+pub note-few : (n : Note) → note-size n ≤ 2
 note-few note.Nothing = omega arith
 note-few (note.Key n) = omega arith
 note-few (note.Pair n) = omega arith

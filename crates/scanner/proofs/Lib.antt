@@ -1,0 +1,4 @@
+pub mod Tell
+pub mod Token
+pub mod Go
+pub mod Filled

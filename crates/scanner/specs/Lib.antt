@@ -1,0 +1,4 @@
+pub mod Promise
+pub mod Run
+pub mod Enough
+pub mod Examples
