@@ -1,0 +1,32 @@
+// The entry for callers in C and Rust.
+ghost use mathlib.Core.Path.{_≡_};
+ghost use Rattle.scanner.specs.Promise.{verdict-of};
+ghost use Rattle.tokenglade.specs.Numbers.{Answers, numbers};
+use scanner::Answer;
+use scanner::scan;
+
+// The refusal's number or 0, its mark, T and D.
+fn numbers_of(a: Answer) -> [u32; 6]
+    ensures { λ r. ⌜ r ≡ numbers (verdict-of a) ⌝ }
+{
+    match a {
+        Answer::Accepted(t, d) => [0, 0, 0, 0, t, d],
+        Answer::Refused(f, t, d) => {
+            let m = f.mark;
+            [f.number, m.index, m.line, m.col, t, d]
+        }
+    }
+}
+
+// Tokens and decoded text of a text, in lent words and bytes; and the numbers of the answer.
+#[no_mangle]
+pub extern "C" fn tokenglade_scan(
+    text: &[u8],
+    words: &mut [u32],
+    bytes: &mut [u8],
+    answer: &mut [u32; 6],
+)
+    ensures { λ _. ⌜ Answers (now (text .entry)) (now (words .entry)) (now (bytes .entry)) (now (words .exit)) (now (bytes .exit)) (now (answer .exit)) ⌝ }
+{
+    *answer = numbers_of(scan(text, words, bytes));
+}

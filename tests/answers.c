@@ -1,0 +1,44 @@
+// answers: for each line of standard input that begins with a text in hex, prints `HEX => ` and the entry's answer, as tests/vectors/README.md has them.
+#include <stdio.h>
+#include <string.h>
+#include "tokenglade.h"
+
+enum { LONGEST = 1 << 21 };
+static char line[2 * LONGEST];
+static uint8_t text[LONGEST], bytes[TOKENGLADE_BYTES(LONGEST)];
+static uint32_t words[TOKENGLADE_WORDS(LONGEST)];
+
+static unsigned value(char c) {
+    return c <= '9' ? c - '0' : c - 'a' + 10;
+}
+
+static void print_records(uint32_t count) {
+    for (size_t i = 0; i < (size_t)count * TOKENGLADE_RECORD; i++)
+        printf("%s%u", i == 0 ? "" : i % TOKENGLADE_RECORD ? " " : ";", words[i]);
+}
+
+static void print_answer(const uint32_t a[6]) {
+    if (a[0] != 0) {
+        printf("R %u %u %u %u\n", a[0], a[1], a[2], a[3]);
+        return;
+    }
+    printf("A %u %u|", a[4], a[5]);
+    print_records(a[4]);
+    printf("|");
+    for (uint32_t i = 0; i < a[5]; i++)
+        printf("%02x", bytes[i]);
+    printf("\n");
+}
+
+int main(void) {
+    uint32_t answer[6];
+    while (fgets(line, sizeof line, stdin)) {
+        size_t n = strspn(line, "0123456789abcdef") / 2;
+        for (size_t i = 0; i < n; i++)
+            text[i] = (uint8_t)(value(line[2 * i]) * 16 + value(line[2 * i + 1]));
+        tokenglade_scan(text, n, words, TOKENGLADE_WORDS(n), bytes, TOKENGLADE_BYTES(n), answer);
+        printf("%.*s => ", (int)(2 * n), line);
+        print_answer(answer);
+    }
+    return 0;
+}
