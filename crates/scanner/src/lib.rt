@@ -80,7 +80,7 @@ fn lent(n: Counts, words: &mut [u32], bytes: &mut [u8]) -> Answer
 }
 
 // Tokens and decoded text of a text, in lent words and bytes, within limits that are at most 01's.
-fn scan_with(limits: Limits, text: &[u8], words: &mut [u32], bytes: &mut [u8]) -> Answer
+pub fn scan_with(limits: Limits, text: &[u8], words: &mut [u32], bytes: &mut [u8]) -> Answer
     requires { ⌜ Modest limits ⌝ }
     ensures { λ r. ⌜ Answers limits (now (text .entry)) (now (words .entry)) (now (bytes .entry)) (now (words .exit)) (now (bytes .exit)) r ⌝ }
 {
