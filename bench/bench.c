@@ -1,4 +1,5 @@
 // bench SCANNER ROUNDS FILE: scans a file again and again; prints the best time in nanoseconds, the tokens, and the peak memory in KB.
+// tokenglade is lent what the text needs, tokenglade-full what demand 3 asks for any text of its size, which is cleared again by every scan.
 // Buffers are lent as the last round left them; they are made and first touched before the clock starts.
 #include <libfyaml.h>
 #include <stdint.h>
@@ -10,20 +11,23 @@
 #include <yaml.h>
 #include "tokenglade.h"
 
-static uint32_t *words;
+static uint32_t *words, answer[6];
 static uint8_t *bytes;
-
-static void lend(size_t len) {
-    words = malloc(TOKENGLADE_WORDS(len) * sizeof *words);
-    bytes = malloc(TOKENGLADE_BYTES(len) + 1);
-    memset(words, 1, TOKENGLADE_WORDS(len) * sizeof *words);
-    memset(bytes, 1, TOKENGLADE_BYTES(len) + 1);
-}
+static size_t words_len, bytes_len;
 
 static long tokenglade(const char *text, size_t len) {
-    uint32_t answer[6];
-    tokenglade_scan((const uint8_t *)text, len, words, TOKENGLADE_WORDS(len), bytes, TOKENGLADE_BYTES(len), answer);
+    tokenglade_scan((const uint8_t *)text, len, words, words_len, bytes, bytes_len, answer);
     return answer[0] ? -1 : (long)answer[4];
+}
+
+static void lend(const char *text, size_t len, int full) {
+    tokenglade(text, len);
+    words_len = full ? TOKENGLADE_WORDS(len) : (size_t)answer[4] * TOKENGLADE_RECORD;
+    bytes_len = full ? TOKENGLADE_BYTES(len) : answer[5];
+    words = malloc(words_len * sizeof *words + 1);
+    bytes = malloc(bytes_len + 1);
+    memset(words, 1, words_len * sizeof *words);
+    memset(bytes, 1, bytes_len);
 }
 
 static long libyaml(const char *text, size_t len) {
@@ -79,8 +83,8 @@ int main(int argc, char **argv) {
         return 2;
     size_t len = fread(text, 1, sizeof text, f);
     fclose(f);
-    if (!strcmp(argv[1], "tokenglade")) {
-        lend(len);
+    if (!strncmp(argv[1], "tokenglade", 10)) {
+        lend(text, len, !strcmp(argv[1], "tokenglade-full"));
         scan = tokenglade;
     } else
         scan = strcmp(argv[1], "libyaml") ? libfyaml : libyaml;

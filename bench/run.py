@@ -10,7 +10,7 @@ ROUNDS = int(sys.argv[sys.argv.index("--rounds") + 1]) if "--rounds" in sys.argv
 
 
 def scanners():
-    found = {n: [os.path.join(OUT, "bench"), n] for n in ("tokenglade", "libyaml", "libfyaml")}
+    found = {n: [os.path.join(OUT, "bench"), n] for n in ("tokenglade", "tokenglade-full", "libyaml", "libfyaml")}
     rust = os.path.join(OUT, "bench-rust")
     if os.path.exists(rust):
         found["yaml-rust"] = [rust, "yaml-rust"]
@@ -49,12 +49,12 @@ def main():
     for size in SIZES:
         subprocess.run([sys.executable, os.path.join(HERE, "texts.py"), os.path.join(OUT, f"texts-{size}"), str(size)], check=True)
     names = sorted(f[:-5] for f in os.listdir(os.path.join(OUT, f"texts-{SIZES[0]}")))
-    print("| Text | " + " | ".join(found) + " | against the best peer | time from 64 KB to 1 MB |")
+    print("| Text | " + " | ".join(found) + " | against the best peer | time, 1 MB to 64 KB |")
     print("|---" * (len(found) + 3) + "|")
     for name in names:
         all_sizes = {size: compare(name, size, found if size == SIZES[-1] else {"tokenglade": found["tokenglade"]}) for size in SIZES}
         last = all_sizes[SIZES[-1]]
-        peers = [r[0] for n, r in last.items() if n != "tokenglade" and r]
+        peers = [r[0] for n, r in last.items() if not n.startswith("tokenglade") and r]
         ours = last["tokenglade"]
         ratio = f"{min(peers) / ours[0]:.2f}" if peers and ours else "-"
         first = all_sizes[SIZES[0]]["tokenglade"]

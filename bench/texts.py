@@ -32,6 +32,10 @@ def texts(size):
         "bracket-keys": repeated(lambda n: "[" * 120 + "a" + "]: b" * 120 + ",\n", size, "[", "a]\n"),
         "colons": repeated(lambda n: "? a\n: b\n", size),
         "deep-dashes": repeated(lambda n: "- " * 250 + "a\n", size),
+        "empty-brackets": repeated(lambda n: "{}, [], ", size, "[", "a]\n"),
+        "one-scalar": repeated(lambda n: "a", size),
+        "blank-lines": repeated(lambda n: " " * 79 + "\n", size),
+        "quoted-flow": repeated(lambda n: f'{{"name": "{word()}", "value": {n}, "sites": ["{word()}", "{word()}"]}}, ', size, "[", "1]\n"),
         "tags": repeated(lambda n: f"- !!{word()} &{word()} {word()}\n- *{word()}\n", size),
     }
 

@@ -1,0 +1,57 @@
+// Numbers as text.
+ghost use mathlib.Core.Path.{_≡_};
+ghost use Prim.Native.Nat.{_*_, _+_, _<_, _^_, _≤_};
+ghost use lib.Dec.{eqb};
+ghost use lib.ListN.{length};
+ghost use Rattle.yaml_text.specs.Pick.{pick};
+ghost use Rattle.lines.specs.Lines.{number-text, numbers-line};
+ghost use Rattle.lines.specs.Written.{Written};
+use libc::STDOUT_FILENO;
+use rooms::copy;
+use rooms::put;
+
+// A number in decimal from `at` on, and a byte behind it; where the next goes.
+pub fn put_number(out: &mut [u8], at: usize, v: u32, end: u8) -> usize
+    requires { ⌜ at < 2 ^ 62 ⌝ }
+    ensures { λ r. ⌜ Written (now (out .entry)) at (number-text v end) (now (out .exit)) r ⌝ }
+{
+    let mut space = [0u8; 20];
+    let n = io::decimal(v as u64, &mut space);
+    copy(out, at, &space[..n]);
+    put(out, at + n, end);
+    at + n + 1
+}
+
+// The byte behind a number that so many follow.
+fn separator(left: usize, between: u8, end: u8) -> u8
+    ensures { λ r. ⌜ r ≡ pick (eqb left 0) end between ⌝ }
+{
+    if left == 0 { end } else { between }
+}
+
+// Numbers from `at` on, with a byte between and another at the end; where the next goes.
+pub fn put_numbers(out: &mut [u8], at: usize, numbers: &[u32], between: u8, end: u8) -> usize
+    requires { ⌜ (at < 2 ^ 60) × (length (now numbers) < 2 ^ 32) ⌝ }
+    ensures { λ r. ⌜ Written (now (out .entry)) at (numbers-line between end (now (numbers .entry))) (now (out .exit)) r ⌝ }
+    ensures { λ r. ⌜ r ≤ at + 11 * length (now (numbers .entry)) ⌝ }
+{
+    let mut next = at;
+    let mut i = 0;
+    while i < numbers.len() {
+        let left = numbers.len() - i - 1;
+        next = put_number(out, next, numbers[i], separator(left, between, end));
+        i += 1;
+    }
+    next
+}
+
+// Writes numbers on standard output, with blanks between and a byte at the end; how many bytes that are.
+pub fn say_numbers(numbers: &[u32], end: u8) -> usize
+    requires { ⌜ length (now numbers) ≤ 12 ⌝ }
+    ensures { λ r. ⌜ r ≡ length (numbers-line 32 end (now (numbers .entry))) ⌝ }
+{
+    let mut space = [0u8; 132];
+    let n = put_numbers(&mut space, 0, numbers, 32, end);
+    io::write_all(STDOUT_FILENO, &space[0..n]);
+    n
+}

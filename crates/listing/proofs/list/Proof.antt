@@ -1,0 +1,45 @@
+use native.Mathlib.Omega.{arith}
+use denote.Ref.{now}
+use Rattle.lines.specs.Listing.{sheet}
+use Rattle.lines.specs.Rooms.{in-rooms}
+use Rattle.listing.proofs.Answered.{answered-lines}
+use borrow.Author.Needs.{needs}
+use Rattle.listing.proofs.list.Statement.{statement}
+use Rattle.listing.proofs.list.Tie as tie
+
+slice-aggregate-scan-with : tie.Need-slice-aggregate-scan-with
+slice-aggregate-scan-with c = search needs
+
+slice-aggregate-scan-with-2 : tie.Need-slice-aggregate-scan-with-2
+slice-aggregate-scan-with-2 c = search needs
+
+scan-with-requires : tie.Need-scan-with-requires
+scan-with-requires c κs = search needs
+
+slice-aggregate-put-answer : tie.Need-slice-aggregate-put-answer
+slice-aggregate-put-answer c = search needs
+
+put-answer-requires : tie.Need-put-answer-requires
+put-answer-requires c κs = let s = c .before .before .before .before .scan-with in
+    let h = in-rooms sheet (now (c .before .before .before .before .before .before .before .before .before .args .text)) _ _ (s .ensures) .words in
+    omega (arith, s .kept .1 .1 .0)
+
+same-length : tie.Need-same-length
+same-length c = search needs
+
+returns : tie.Need-returns
+returns c = let s = c .before .before .before .before .before .before .before .scan-with in
+    let p = c .before .before .put-answer in
+    (answered-lines (s .result) (now (c .before .before .before .before .before .before .before .before .before .before .before .before .args .text)) _ _ (s .ensures) (p .ensures .0), omega (arith, p .ensures .1, s .kept .1 .1 .0))
+
+pub list-spec : {M : Type 1} → statement M
+list-spec =
+    tie.close
+    (tie.spec
+    slice-aggregate-scan-with
+    slice-aggregate-scan-with-2
+    scan-with-requires
+    slice-aggregate-put-answer
+    put-answer-requires
+    same-length
+    returns)
