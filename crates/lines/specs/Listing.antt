@@ -4,9 +4,9 @@ use mathlib.Core.List.{List, [], _∷_, map}
 use mathlib.Core.Path.{_≡_, refl}
 use lib.ListN.{drop, getD, take}
 use Rattle.yaml_text.specs.declared.Mark.{Mark}
-use Rattle.yaml_scan.specs.declared.Limits.{Limits}
-use Rattle.yaml_scan.specs.Scan.{Answer, Verdict, accepted, answer, no-verdict, refusal}
 use Rattle.yaml_scan.specs.Open.{all-open}
+use Rattle.yaml_scan.specs.Scan.{Answer, Verdict, accepted, answer, no-verdict, refusal}
+use Rattle.yaml_scan.specs.declared.Limits.{Limits}
 use Rattle.lines.specs.Decimal.{decimal, place-more, places}
 use Rattle.lines.specs.Lines.{end-before, lines-text, numbers-line}
 

@@ -8,8 +8,8 @@ use lib.ListN.{length, length-replicate, replicate}
 use borrow.Author.Tests.{ltb-false}
 use Rattle.yaml_text.specs.Test.{by-test}
 use Rattle.yaml_lexeme.specs.Token.{Token, texts}
-use Rattle.yaml_scan.specs.declared.Limits.{Limits}
 use Rattle.yaml_scan.specs.Scan.{Answer, Outcome, Verdict, accepted, answer, answer-for, lent, no-verdict, outcome, refusal, scanned, settled, spent, stopped}
+use Rattle.yaml_scan.specs.declared.Limits.{Limits}
 
 -- T and D of an acceptance; 0 of a refusal, which leaves nothing
 abbrev pub tokens-left : Verdict → ℕ

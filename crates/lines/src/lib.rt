@@ -1,10 +1,11 @@
-// Numbers as text.
+// Numbers as text, and the lines of records.
 ghost use mathlib.Core.Path.{_≡_};
 ghost use Prim.Native.Nat.{_*_, _+_, _<_, _^_, _≤_};
 ghost use lib.Dec.{eqb};
-ghost use lib.ListN.{length};
+ghost use lib.ListN.{drop, length, take};
 ghost use Rattle.yaml_text.specs.Pick.{pick};
-ghost use Rattle.lines.specs.Lines.{number-text, numbers-line};
+ghost use Rattle.lines.specs.Lines.{lines-text, number-text, numbers-line};
+ghost use Rattle.lines.specs.Listing.{listed, token-lines};
 ghost use Rattle.lines.specs.Written.{Written};
 use libc::STDOUT_FILENO;
 use rooms::copy;
@@ -54,4 +55,39 @@ pub fn say_numbers(numbers: &[u32], end: u8) -> usize
     let n = put_numbers(&mut space, 0, numbers, 32, end);
     io::write_all(STDOUT_FILENO, &space[0..n]);
     n
+}
+
+// Kind, six mark numbers, style, words 9 and 11 (counted from 1) of the record at a place.
+pub fn listed_words(words: &[u32], at: usize) -> [u32; 10]
+    requires { ⌜ at + 12 ≤ length (now words) ⌝ }
+    ensures { λ r. ⌜ r ≡ listed (take 12 (drop at (now (words .entry)))) ⌝ }
+{
+    [
+        words[at],
+        words[at + 1],
+        words[at + 2],
+        words[at + 3],
+        words[at + 4],
+        words[at + 5],
+        words[at + 6],
+        words[at + 11],
+        words[at + 8],
+        words[at + 10],
+    ]
+}
+
+// A line for each of t records, from `at` on; where the next goes.
+pub fn put_records(out: &mut [u8], at: usize, words: &[u32], t: u32) -> usize
+    requires { ⌜ (at < 2 ^ 32) × (t * 12 ≤ length (now words)) ⌝ }
+    ensures { λ r. ⌜ Written (now (out .entry)) at (lines-text (token-lines t (now (words .entry)))) (now (out .exit)) r ⌝ }
+    ensures { λ r. ⌜ r ≤ at + 110 * t ⌝ }
+{
+    let mut next = at;
+    let mut n: u32 = 0;
+    while n < t {
+        let numbers = listed_words(words, n as usize * 12);
+        next = put_numbers(out, next, &numbers, 32, 10);
+        n += 1;
+    }
+    next
 }

@@ -4,13 +4,13 @@ use mathlib.Core.List.{List, [], _∷_, append-nil}
 use mathlib.Core.Path.{_≡_, ap}
 use Rattle.yaml_text.specs.declared.Refusal.{Refusal}
 use Rattle.yaml_scan.specs.Scan.{Answer as Said, answer}
-use Rattle.scanner.specs.declared.Answer.{Answer}
-use Rattle.scanner.specs.declared.Answer.the-variants.{Accepted, Refused}
-use Rattle.scanner.specs.Promise.{answer-of, verdict-of}
 use Rattle.lines.specs.Lines.{lines-text, numbers-line}
 use Rattle.lines.specs.Listing.{listing, listing-of, mark-numbers, sheet, token-lines, verdict-lines}
 use Rattle.lines.specs.Rooms.{tokens-left}
 use Rattle.lines.specs.Written.{Written, written-then}
+use Rattle.scanner.specs.Promise.{answer-of, verdict-of}
+use Rattle.scanner.specs.declared.Answer.the-variants.{Accepted, Refused}
+use Rattle.scanner.specs.declared.Answer.{Answer}
 
 pub accepted-fit : (a : Answer) (t d w : ℕ) → a ≡ Accepted t d → tokens-left (verdict-of a) * 12 ≤ w → t * 12 ≤ w
 accepted-fit a t d w e h = rw e at h

@@ -1,53 +1,18 @@
 // Lists the tokens of a sheet: standard input of up to 512 bytes; `T D`, then a line for each token; or a refusal's number and mark.
-ghost use mathlib.Core.Path.{_≡_};
-ghost use Prim.Native.Nat.{_*_, _+_, _/_, _<_, _^_, _≤_};
-ghost use lib.ListN.{drop, length, take};
+ghost use Prim.Native.Nat.{_*_, _+_, _/_, _≤_};
+ghost use lib.ListN.{length};
 ghost use Rattle.lines.specs.Lines.{lines-text};
-ghost use Rattle.lines.specs.Listing.{listed, listing-of, token-lines, verdict-lines};
+ghost use Rattle.lines.specs.Listing.{listing-of, verdict-lines};
 ghost use Rattle.lines.specs.Rooms.{tokens-left};
 ghost use Rattle.lines.specs.Written.{Written};
 ghost use Rattle.scanner.specs.Promise.{verdict-of};
 use libc::STDIN_FILENO;
 use libc::STDOUT_FILENO;
 use lines::put_numbers;
+use lines::put_records;
 use scanner::Answer;
 use scanner::scan_with;
 use yaml_scan::Limits;
-
-// Kind, six mark numbers, style, words 9 and 11 (counted from 1) of the record at a place.
-fn listed_words(words: &[u32], at: usize) -> [u32; 10]
-    requires { ⌜ at + 12 ≤ length (now words) ⌝ }
-    ensures { λ r. ⌜ r ≡ listed (take 12 (drop at (now (words .entry)))) ⌝ }
-{
-    [
-        words[at],
-        words[at + 1],
-        words[at + 2],
-        words[at + 3],
-        words[at + 4],
-        words[at + 5],
-        words[at + 6],
-        words[at + 11],
-        words[at + 8],
-        words[at + 10],
-    ]
-}
-
-// A line for each of t records, from `at` on; where the next goes.
-fn put_records(out: &mut [u8], at: usize, words: &[u32], t: u32) -> usize
-    requires { ⌜ (at < 2 ^ 32) × (t * 12 ≤ length (now words)) ⌝ }
-    ensures { λ r. ⌜ Written (now (out .entry)) at (lines-text (token-lines t (now (words .entry)))) (now (out .exit)) r ⌝ }
-    ensures { λ r. ⌜ r ≤ at + 110 * t ⌝ }
-{
-    let mut next = at;
-    let mut n: u32 = 0;
-    while n < t {
-        let numbers = listed_words(words, n as usize * 12);
-        next = put_numbers(out, next, &numbers, 32, 10);
-        n += 1;
-    }
-    next
-}
 
 // The listing of an answer, with what the words hold; how long it is.
 fn put_answer(out: &mut [u8], a: Answer, words: &[u32]) -> usize

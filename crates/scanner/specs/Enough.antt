@@ -1,5 +1,5 @@
--- Demand 3, 3, of the entry: lent words for 2c + 3 records and bytes for 3b / 2, or more, where the text has c characters and b bytes, it never answers 4 or 5.
--- It is said of every answer that keeps the entry's promise.
+-- Demand 3, 3, of the entry: lent words for 2c + 3 records and bytes for 3b / 2, or more, where the text has c characters and b bytes,
+-- it refuses nothing for want of room. It is said of every answer that keeps the entry's promise.
 use Prim.Native.Nat.{_*_, _+_, _/_, _≤_, ℕ}
 use mathlib.Core.List.{List}
 use mathlib.Core.Path.{_∙_, _≡_, ap, refl}

@@ -8,7 +8,6 @@ ghost use Rattle.yaml_scan.specs.Scan.{blank-answer, outcome, refusal, standard
 ghost use Rattle.scanner.specs.Promise.{Answers, Modest, Settles, answer-of, lent-of};
 ghost use Rattle.scanner.specs.Run.{Comes, none};
 use crate::run::Outcome;
-use crate::run::origin;
 use crate::run::run;
 use rooms::clear_from;
 use rooms::clear_words_from;
@@ -17,6 +16,7 @@ use states::Counts;
 use validity::Checked;
 use validity::check_text;
 use yaml_scan::Limits;
+use yaml_text::Mark;
 use yaml_text::Refusal;
 
 pub enum Answer {
@@ -30,9 +30,14 @@ pub enum Answer {
 fn outside(number: u32) -> Refusal
     ensures { λ r. ⌜ r ≡ record { number = number; mark = origin } ⌝ }
 {
+    let m = Mark {
+        index: 0,
+        line: 1,
+        col: 0,
+    };
     Refusal {
         number: number,
-        mark: origin(),
+        mark: m,
     }
 }
 

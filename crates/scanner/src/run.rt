@@ -1,8 +1,6 @@
 // The run: step after step from StreamStart to the end of the text, stored as they come.
-ghost use mathlib.Core.Path.{_≡_};
 ghost use Prim.Native.Nat.{_+_, _≤_, suc};
 ghost use lib.ListN.{length};
-ghost use Rattle.yaml_text.specs.Mark.{origin};
 ghost use Rattle.yaml_text.specs.PlaceLaws.{left};
 ghost use Rattle.yaml_text.specs.Utf8.{chars};
 ghost use Rattle.yaml_scan.specs.Choice.{fetch-next};
@@ -22,7 +20,6 @@ use steps::fetch_next;
 use yaml_lexeme::Kind;
 use yaml_lexeme::Token;
 use yaml_scan::Limits;
-use yaml_text::Mark;
 use yaml_text::Refusal;
 
 pub enum Outcome {
@@ -126,17 +123,6 @@ fn go(
     }
 }
 
-// The first character of a text.
-pub fn origin() -> Mark
-    ensures { λ r. ⌜ r ≡ origin ⌝ }
-{
-    Mark {
-        index: 0,
-        line: 1,
-        col: 0,
-    }
-}
-
 // The whole run.
 pub fn run(limits: Limits, text: &[u8], words: &mut [u32], bytes: &mut [u8]) -> Outcome
     requires { ⌜ Modest limits × (length (now text) ≤ 1_048_576) ⌝ }
@@ -149,20 +135,13 @@ pub fn run(limits: Limits, text: &[u8], words: &mut [u32], bytes: &mut [u8]) -> 
         put_in: 0,
         used: 0,
     };
+    let s = State::begin();
+    let m = s.place.mark;
     let start = Token {
         kind: Kind::StreamStart,
-        start: origin(),
-        end: origin(),
+        start: m,
+        end: m,
     };
     put_record(words, 0, start);
-    go(
-        limits,
-        text,
-        State::begin(),
-        n,
-        &mut entries,
-        &mut frames,
-        words,
-        bytes,
-    )
+    go(limits, text, s, n, &mut entries, &mut frames, words, bytes)
 }

@@ -9,10 +9,6 @@ use Rattle.yaml_text.specs.Mark.{origin}
 use Rattle.yaml_scan.specs.Scan.{Answer, accepted, answer, blank-answer, filled, refusal, standard}
 use Rattle.yaml_scan.specs.Open.{all-open}
 
--- rooms of 12 records and 16 bytes
-abbrev answers : List ℕ → Answer
-answers bytes = answer standard bytes 144 16
-
 -- the examples' bytes
 abbrev P1 : List ℕ
 P1 = []
@@ -68,8 +64,13 @@ at-line-one i = record { index = i; line = 1; col = i }
 abbrev refuses : ℕ → ℕ → Answer
 refuses n i = blank-answer (refusal n (at-line-one i) 0 0) 144 16
 
-pub Examples : Type 0
-Examples =
+-- the definition's answers, in rooms of 12 records and 16 bytes
+abbrev defined : List ℕ → Answer
+defined bytes = answer standard bytes 144 16
+
+-- P1 to P12, of what is answered in such rooms
+unfoldable pub Examples : (List ℕ → Answer) → Type 0
+Examples answers =
     (answers P1 ≡ record {
       verdict = accepted 2 0;
       words = filled 144 (1 ∷ 0 ∷ 1 ∷ 0 ∷ 0 ∷ 1 ∷ 0 ∷ 0 ∷ 0 ∷ 0 ∷ 0 ∷ 0 ∷ 2 ∷ 0 ∷ 1 ∷ 0 ∷ 0 ∷ 1 ∷ 0 ∷ 0 ∷ 0 ∷ 0 ∷ 0 ∷ 0 ∷ []);
@@ -104,7 +105,7 @@ Examples =
     × (answers P11 ≡ refuses 46 4)
     × (answers P12 ≡ refuses 2 0)
 
-pub examples : Examples
+pub examples : Examples defined
 unfolding Examples all-open
 examples = (refl, refl, refl, refl, refl, refl, refl, refl, refl, refl, refl, refl)
 
@@ -142,9 +143,9 @@ bracket-in-block = 45 ∷ 32 ∷ 91 ∷ 97 ∷ 93 ∷ []
 -- "Slips that look right": T and D tell them; the fourth is P5
 pub Slips : Type 0
 Slips =
-    (answers outer-indicator .verdict ≡ accepted 3 2)
-    × (answers escaped-break .verdict ≡ accepted 3 2)
-    × (answers bracket-in-block .verdict ≡ accepted 8 1)
+    (defined outer-indicator .verdict ≡ accepted 3 2)
+    × (defined escaped-break .verdict ≡ accepted 3 2)
+    × (defined bracket-in-block .verdict ≡ accepted 8 1)
 
 pub slips : Slips
 unfolding Slips all-open

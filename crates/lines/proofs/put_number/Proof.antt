@@ -1,8 +1,8 @@
 use Prim.Native.Nat.{_≤_}
-use denote.Ref.{now}
 use native.Mathlib.Omega.{arith}
-use Rattle.lines.proofs.Number.{few, number-written}
+use denote.Ref.{now}
 use borrow.Author.Needs.{needs}
+use Rattle.lines.proofs.Number.{few, number-written}
 use Rattle.lines.proofs.put_number.Statement.{statement}
 use Rattle.lines.proofs.put_number.Tie as tie
 

@@ -1,9 +1,9 @@
 use native.Mathlib.Omega.{arith}
 use denote.Ref.{now}
+use borrow.Author.Needs.{needs}
 use Rattle.lines.specs.Listing.{sheet}
 use Rattle.lines.specs.Rooms.{in-rooms}
 use Rattle.listing.proofs.Answered.{answered-lines}
-use borrow.Author.Needs.{needs}
 use Rattle.listing.proofs.list.Statement.{statement}
 use Rattle.listing.proofs.list.Tie as tie
 
@@ -20,17 +20,20 @@ slice-aggregate-put-answer : tie.Need-slice-aggregate-put-answer
 slice-aggregate-put-answer c = search needs
 
 put-answer-requires : tie.Need-put-answer-requires
-put-answer-requires c κs = let s = c .before .before .before .before .scan-with in
-    let h = in-rooms sheet (now (c .before .before .before .before .before .before .before .before .before .args .text)) _ _ (s .ensures) .words in
-    omega (arith, s .kept .1 .1 .0)
+put-answer-requires c κs =
+    let s = c .before .before .before .before in
+    let h = in-rooms sheet (now (s .before .before .before .before .before .args .text)) _ _ (s .scan-with .ensures) .words in
+    omega (arith, s .scan-with .kept .1 .1 .0)
 
 same-length : tie.Need-same-length
 same-length c = search needs
 
 returns : tie.Need-returns
-returns c = let s = c .before .before .before .before .before .before .before .scan-with in
-    let p = c .before .before .put-answer in
-    (answered-lines (s .result) (now (c .before .before .before .before .before .before .before .before .before .before .before .before .args .text)) _ _ (s .ensures) (p .ensures .0), omega (arith, p .ensures .1, s .kept .1 .1 .0))
+returns c =
+    let s = c .before .before .before .before .before .before .before in
+    let r = s .scan-with in
+    let p = c .before .before .put-answer .ensures in
+    (answered-lines (r .result) (now (s .before .before .before .before .before .args .text)) _ _ (r .ensures) (p .0), omega (arith, p .1, r .kept .1 .1 .0))
 
 pub list-spec : {M : Type 1} → statement M
 list-spec =

@@ -1,7 +1,7 @@
 use native.Mathlib.Omega.{arith}
 use denote.Ref.{now}
-use Rattle.listing.proofs.Answered.{accepted-fit, accepted-lines, refused-lines}
 use borrow.Author.Needs.{needs}
+use Rattle.listing.proofs.Answered.{accepted-fit, accepted-lines, refused-lines}
 use Rattle.listing.proofs.put_answer.Statement.{statement}
 use Rattle.listing.proofs.put_answer.Tie as tie
 
@@ -15,7 +15,9 @@ put-numbers-requires : tie.Need-put-numbers-requires
 put-numbers-requires c κs = search needs
 
 put-records-requires : tie.Need-put-records-requires
-put-records-requires c κs = (omega arith, accepted-fit _ _ _ _ (c .before .before .before .before .before .before .before .a .given .1) (c .before .before .before .before .before .before .before .before .before .before .before .pre))
+put-records-requires c κs =
+    let m = c .before .before .before .before .before .before .before in
+    (omega arith, accepted-fit _ _ _ _ (m .a .given .1) (m .before .before .before .before .pre))
 
 enum-known-a-2 : tie.Need-enum-known-a-2
 enum-known-a-2 c = search needs
@@ -43,8 +45,9 @@ same-length-2 c = search needs
 
 returns-2 : tie.Need-returns-2
 returns-2 c =
+    let m = c .before .before .before .before .before .before .before in
     let p = c .before .before .put-numbers2 .ensures in
-    (refused-lines _ (now (c .before .before .before .before .before .before .before .before .before .before .before .args .words)) (c .before .before .before .before .before .before .before .a2 .given .1) (p .0), omega (arith, p .1))
+    (refused-lines _ (now (m .before .before .before .before .args .words)) (m .a2 .given .1) (p .0), omega (arith, p .1))
 
 pub put-answer-spec : {M : Type 1} → statement M
 put-answer-spec =

@@ -1,7 +1,7 @@
 use native.Mathlib.Omega.{arith}
 use denote.Ref.{now}
-use Rattle.replay.proofs.Accepted.{accepted-fits}
 use borrow.Author.Needs.{needs}
+use Rattle.replay.proofs.Accepted.{accepted-fits}
 use Rattle.replay.proofs.replay.Statement.{statement}
 use Rattle.replay.proofs.replay.Tie as tie
 
@@ -12,9 +12,11 @@ enum-known-a : tie.Need-enum-known-a
 enum-known-a c = search needs
 
 say-accepted-requires : tie.Need-say-accepted-requires
-say-accepted-requires c κs = let s = c .before .before .before .before .before .before .before .before .before .scan in
-    let h = accepted-fits _ (now (c .before .before .before .before .before .before .before .before .before .before .before .before .before .before .before .args .text)) _ _ _ _ _ _ (s .ensures) (c .before .before .before .a .given .1) in
-    omega (arith, h, s .kept .1 .0, s .kept .1 .1 .0)
+say-accepted-requires c κs =
+    let s = c .before .before .before .before .before .before .before .before .before in
+    let r = s .scan in
+    let h = accepted-fits _ (now (s .before .before .before .before .before .before .args .text)) _ _ _ _ _ _ (r .ensures) (c .before .before .before .a .given .1) in
+    omega (arith, h, r .kept .1 .0, r .kept .1 .1 .0)
 
 enum-known-a-2 : tie.Need-enum-known-a-2
 enum-known-a-2 c = search needs

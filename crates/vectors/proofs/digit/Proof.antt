@@ -1,7 +1,7 @@
 use native.Mathlib.Omega.{arith}
+use borrow.Author.Needs.{needs}
 use borrow.Author.Tests.{le-leb, lt-leb}
 use Rattle.vectors.specs.Hex.{hex-value}
-use borrow.Author.Needs.{needs}
 use Rattle.vectors.proofs.digit.Statement.{statement}
 use Rattle.vectors.proofs.digit.Tie as tie
 

@@ -1,20 +1,17 @@
 use Prim.Native.Nat.{_-_, _≤_}
 use lib.ListN.{length}
 use borrow.Author.Needs.{needs}
-use Rattle.edges.proofs.words_left.Statement.{statement}
-use Rattle.edges.proofs.words_left.Tie as tie
+use Rattle.edges.proofs.rooms.bytes_left.Statement.{statement}
+use Rattle.edges.proofs.rooms.bytes_left.Tie as tie
 
 abbrev Inv-loop : tie.InvT-loop
-Inv-loop words n k₀ i₀ k i = i ≤ length words
+Inv-loop bytes n k₀ i₀ k i = i ≤ length bytes
 
 abbrev μ-loop : tie.MeasureT-loop
-μ-loop words n k₀ i₀ k i = length words - i
+μ-loop bytes n k₀ i₀ k i = length bytes - i
 
 loop-holds : tie.Need-loop-holds Inv-loop μ-loop
 loop-holds c = search needs
-
-mul-count : tie.Need-mul-count Inv-loop μ-loop
-mul-count c = search needs
 
 shared-slice-read-count : tie.Need-shared-slice-read-count Inv-loop μ-loop
 shared-slice-read-count c = search needs
@@ -34,14 +31,13 @@ loop-again c = search needs
 returns : tie.Need-returns Inv-loop μ-loop
 returns c = search needs
 
-pub words-left-spec : {M : Type 1} → statement M
-words-left-spec =
+pub bytes-left-spec : {M : Type 1} → statement M
+bytes-left-spec =
     tie.close
     (tie.spec
     Inv-loop
     μ-loop
     loop-holds
-    mul-count
     shared-slice-read-count
     count-requires
     add-i

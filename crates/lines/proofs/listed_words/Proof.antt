@@ -1,9 +1,9 @@
 use mathlib.Core.Path.{sym}
 use denote.Ref.{now}
-use Rattle.listing.proofs.Rows.{listed-at}
 use borrow.Author.Needs.{needs}
-use Rattle.listing.proofs.listed_words.Statement.{statement}
-use Rattle.listing.proofs.listed_words.Tie as tie
+use Rattle.lines.proofs.Rows.{listed-at}
+use Rattle.lines.proofs.listed_words.Statement.{statement}
+use Rattle.lines.proofs.listed_words.Tie as tie
 
 mul-t3 : tie.Need-mul-t3
 mul-t3 c = search needs

@@ -5,8 +5,8 @@ use lib.ListN.{length}
 use denote.Ref.{now}
 use borrow.Author.Needs.{needs}
 use Rattle.vectors.specs.Line.{line-within}
-use Rattle.edges.proofs.in_small_rooms.Statement.{statement}
-use Rattle.edges.proofs.in_small_rooms.Tie as tie
+use Rattle.edges.proofs.rooms.in_small_rooms.Statement.{statement}
+use Rattle.edges.proofs.rooms.in_small_rooms.Tie as tie
 
 abbrev Inv-loop : tie.InvT-loop
 Inv-loop s words₀ bytes₀ room n₀ at₀ words bytes n at = (length words ≡ length words₀) × (length bytes ≡ length bytes₀)

@@ -2,8 +2,8 @@ use Prim.Native.Nat.{_-_}
 use mathlib.Core.Path.{_≡_}
 use lib.ListN.{length}
 use borrow.Author.Needs.{needs}
-use Rattle.edges.proofs.fill.Statement.{statement}
-use Rattle.edges.proofs.fill.Tie as tie
+use Rattle.edges.proofs.limits.fill.Statement.{statement}
+use Rattle.edges.proofs.limits.fill.Tie as tie
 
 abbrev Inv-loop : tie.InvT-loop
 Inv-loop out₀ b i₀ out i = length out ≡ length out₀

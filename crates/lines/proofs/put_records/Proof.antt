@@ -4,12 +4,12 @@ use native.Mathlib.Omega.{arith}
 use lib.ListN.{drop}
 use denote.Ref.{now}
 use borrow.Author.Needs.{needs}
 use Rattle.lines.specs.Lines.{lines-text}
 use Rattle.lines.specs.Listing.{token-lines}
 use Rattle.lines.specs.Written.{Writing, writing-ends, writing-more, writing-starts}
-use Rattle.listing.proofs.Rows.{rows-end, rows-more, rows-start, ten}
-use Rattle.listing.proofs.put_records.Statement.{statement}
-use Rattle.listing.proofs.put_records.Tie as tie
+use Rattle.lines.proofs.Rows.{rows-end, rows-more, rows-start, ten}
+use Rattle.lines.proofs.put_records.Statement.{statement}
+use Rattle.lines.proofs.put_records.Tie as tie
 
 abbrev Inv-loop : tie.InvT-loop
 Inv-loop out₀ at words t next₀ n₀ out next n =
