@@ -4,8 +4,8 @@ ghost use lib.ListN.{length};
 use libc::STDIN_FILENO;
 use libc::STDOUT_FILENO;
 use lines::say_numbers;
-use scanner::Answer;
 use scanner::scan;
+use tokenglade::numbers_of;
 use vectors::enough_words;
 use vectors::line_end;
 use vectors::read_hex;
@@ -76,17 +76,6 @@ fn bytes_left(bytes: &[u8], n: u32) -> u32 {
         i += 1;
     }
     k
-}
-
-// The refusal's number or 0, its mark, T and D.
-fn numbers_of(a: Answer) -> [u32; 6] {
-    match a {
-        Answer::Accepted(t, d) => [0, 0, 0, 0, t, d],
-        Answer::Refused(f, t, d) => {
-            let m = f.mark;
-            [f.number, m.index, m.line, m.col, t, d]
-        }
-    }
 }
 
 fn same(a: [u32; 6], b: [u32; 6]) -> bool {

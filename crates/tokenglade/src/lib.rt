@@ -6,7 +6,7 @@ use scanner::Answer;
 use scanner::scan;
 
 // The refusal's number or 0, its mark, T and D.
-fn numbers_of(a: Answer) -> [u32; 6]
+pub fn numbers_of(a: Answer) -> [u32; 6]
     ensures { λ r. ⌜ r ≡ numbers (verdict-of a) ⌝ }
 {
     match a {
