@@ -55,7 +55,7 @@ fn say_plain(what: &[u8], size: usize, text: &mut [u8], bytes: &mut [u8])
 }
 
 // For each limit `T D`, or the refusal's number and mark.
-pub fn say_limits(text: &mut [u8], bytes: &mut [u8])
+pub(crate) fn say_limits(text: &mut [u8], bytes: &mut [u8])
     requires { ⌜ 1_048_577 ≤ length (now text) ⌝ }
 {
     io::write_all(STDOUT_FILENO, b"limits: T and D, or refusal and mark\n");

@@ -203,7 +203,7 @@ fn say_room(what: &[u8], s: &[u8], room: Small) {
 }
 
 // The vectors come from standard input.
-pub fn say_rooms(space: &mut [u8]) {
+pub(crate) fn say_rooms(space: &mut [u8]) {
     let n = io::read_full(STDIN_FILENO, space);
     let s = &space[0..n];
     io::write_all(
