@@ -1,18 +1,19 @@
 -- Turns of the loops over gaps, on the characters at a place.
-use Prim.Native.Nat.{_+_, _<_, _^_, _≤_, ℕ}
+use Prim.Native.Nat.{_+_, _-_, _<_, _^_, _≤_, suc, ℕ}
 use mathlib.Core.Bool.{Bool, _&&_, _||_, false, not, or-assoc, or-false, or-self, true}
 use mathlib.Core.List.{List, [], _∷_}
 use mathlib.Core.Path.{_∙_, _≡_, ap, refl, sym}
 use native.Mathlib.Omega.{arith}
 use lib.Dec.{T, eqb}
-use lib.ListN.{drop, getD, take}
+use lib.ListN.{drop, getD, length, take}
+use borrow.Author.Tests.{eqb-true}
 use Rattle.yaml_text.specs.declared.Mark.{Mark}
-use Rattle.yaml_text.specs.Char.{'#', carriage-return, line-feed, tab}
+use Rattle.yaml_text.specs.Char.{'#', carriage-return, line-feed, space, tab}
 use Rattle.yaml_text.specs.Class.{isBlank, isBreak, peek}
 use Rattle.yaml_text.specs.Mark.{Run, along, along-by, before-run, here, look, new-line, nothing-at, over, word}
 use Rattle.yaml_text.specs.Mark as definition
 use Rattle.yaml_text.specs.MarkLaws.{over-along, over-break, over-crlf}
-use Rattle.yaml_text.specs.Refusal.{got, refused}
+use Rattle.yaml_text.specs.Refusal.{Read, got, refused}
 use Rattle.yaml_text.specs.Pick.{pick}
 use Rattle.yaml_text.specs.Test.{by-pick, by-test, true-false}
 use Rattle.yaml_text.specs.Utf8.{chars}
@@ -20,17 +21,19 @@ use Rattle.yaml_lexeme.specs.declared.Before.{Before}
 use Rattle.yaml_lexeme.specs.declared.Before.the-variants.{AfterText, InComment, Leading, Spaced, Tabbed}
 use Rattle.yaml_text.specs.PlaceLaws.{fits-left}
 use Rattle.yaml_lexeme.specs.Fits.{to-break-fit}
-use Rattle.yaml_lexeme.specs.Gap.{blanks, comment-after, gap-turn, isLeading, on-blank, on-hash, on-other, skip-gap, stop, to-break}
+use Rattle.yaml_lexeme.specs.Gap.{Gap, blanks, comment-after, gap-turn, isLeading, on-blank, on-hash, on-other, skip-gap, stop, to-break}
 use Rattle.yaml_lexeme.specs.Turns.{blanks-more, blanks-stop, gap-turned, to-break-more, to-break-stop}
 use Rattle.chars.specs.declared.mark.Place.{Place}
 use Rattle.chars.specs.Ascii.{blank-ascii, blank-unbroken, break-ascii, low}
 use Rattle.chars.specs.Bytes.{CharAt, ascii-at, eq-at, ne-char}
-use Rattle.chars.specs.Reach.{reach-within}
+use Rattle.chars.specs.Reach.{more, reach-within}
 use Rattle.chars.specs.View.{Moves, Stands, past, view}
 use Rattle.gaps.specs.Breaks.{BreakAt, Breaks, none, one, two}
 use Rattle.gaps.specs.Gap.{Open, Other, gap-from}
-use Rattle.gaps.specs.Line.{Lined, line, line-more, line-stop, lined, low-run}
-use Rattle.gaps.specs.Walk.{moves-some}
+use Rattle.gaps.specs.Line.{is-low, line, line-more, line-row, line-stop, low-row, low-run}
+use Rattle.gaps.specs.Row.{Row, done, next, row-reach}
+use Rattle.gaps.specs.Spaces.{is-space, space-row, space-run}
+use Rattle.gaps.specs.Walk.{Walks, moves-some, walks-along}
 use Rattle.gaps.specs.Span.{Spanning, spans-along}
 
 -- blanks
@@ -66,11 +69,11 @@ line-some {s} {p} {q} {c} {n} x e w =
 -- over the characters of one byte in a row
 module _ {text : List ℕ} {p : Place} {n : ℕ} (e : n ≡ low-run (drop (p .at) text)) where
   pub low-few : Stands text p → n ≤ 2 ^ 20
-  low-few h = let w = reach-within (lined text (p .at) .reach) (h .within) in omega (arith, w, h)
+  low-few h = let w = reach-within (row-reach (low-row text (p .at))) (h .within) in omega (arith, w, h)
 
   pub low-spans : {start q : Place} {x : Run} → Spanning text start p x (line (p .mark) (chars (drop (p .at) text)))
       → q ≡ past p n (along-by n (p .mark)) → Spanning text start q x (line (q .mark) (chars (drop (q .at) text)))
-  low-spans w f = let l : Lined text (p .at) n = rw e (lined text (p .at)) in rw f (spans-along w n n (l .reach) (l .turns (p .mark)))
+  low-spans w f = let r : Row is-low text (p .at) n = rw e (low-row text (p .at)) in rw f (spans-along w n n (row-reach r) (line-row r (p .mark)))
 
 -- the comment behind blanks
 
@@ -100,6 +103,61 @@ gap-blank {s} {at} {c} flow a b m x e =
     let f = blank-unbroken c e in
     let cs = chars (drop (at + 1) s) in
     rw (x .next) (gap-turned flow a b m c cs ∙ rw (f, e, or-false a, over-along m c (peek cs 0) f))
+
+space-is : (c : ℕ) → is-space c ≡ true → c ≡ space
+unfolding is-space
+space-is c e = eqb-true c space e
+
+space-blank : isBlank space ≡ true
+unfolding isBlank
+space-blank = refl
+
+-- spaces behind a blank change nothing but the place
+behind-blank : (flow : Bool) (m n : Mark) (c : ℕ) (b : Before) → on-blank flow n space (on-blank flow m c b) ≡ on-blank flow m c b
+unfolding on-blank
+behind-blank flow m n c Leading = by-pick (λ (b : Before). on-blank flow n space b ≡ b) (not flow && eqb c tab) (Tabbed m) Leading refl (leads flow)
+  where
+    leads : (f : Bool) → on-blank f n space Leading ≡ Leading
+    leads true = refl
+    leads false = refl
+behind-blank flow m n c (Tabbed t) = refl
+behind-blank flow m n c Spaced = refl
+behind-blank flow m n c AfterText = refl
+behind-blank flow m n c InComment = refl
+
+gap-spaces : {s : List ℕ} {at k : ℕ} (flow a : Bool) (b : Before) → ((n : Mark) → on-blank flow n space b ≡ b) → Row is-space s at k → (m : Mark)
+    → skip-gap flow a b m (chars (drop at s)) ≡ skip-gap flow a b (along-by k m) (chars (drop (at + k) s))
+gap-spaces {at = at} flow a b h done m =
+    let e : at + 0 ≡ at = omega arith in
+    let i : m .index + 0 ≡ m .index = omega arith in
+    let c : m .col + 0 ≡ m .col = omega arith in
+    rw (e, i, c)
+gap-spaces {s} {at} flow a b h (next {b = d} {k = k} x f r) m =
+    let e : at + 1 + k ≡ at + suc k = omega arith in
+    let i : m .index + 1 + k ≡ m .index + suc k = omega arith in
+    let c : m .col + 1 + k ≡ m .col + suc k = omega arith in
+    let g : d ≡ space = space-is d f in
+    gap-blank flow a b m x (rw g space-blank) ∙ rw (g, h m) (rw (e, i, c) at (gap-spaces flow a b h r (along m)))
+
+-- over a blank and the spaces behind it
+module _ {text : List ℕ} (p : Place) {c r : ℕ} (x : CharAt text (p .at) c 1) (e : r ≡ p .at + 1 + space-run (drop (p .at + 1) text)) where
+  pub blanks-some : (p .at < r) × (r ≤ length text)
+  blanks-some = let w = reach-within (row-reach (space-row text (p .at + 1))) (x .within) in omega (arith, w, e)
+
+  pub gap-blanks : {start q : Place} {y : Read Gap} (flow a : Bool) (b : Before) → isBlank c ≡ true
+      → Walks text start p y (gap-from flow a b (view text p)) → q ≡ past p (r - p .at) (along-by (r - p .at) (p .mark))
+      → Walks text start q y (gap-from flow a (on-blank flow (p .mark) c b) (view text q))
+  gap-blanks flow a b h w f =
+      let k = space-run (drop (p .at + 1) text) in
+      let l = space-row text (p .at + 1) in
+      let n : r - p .at ≡ suc k = omega (arith, e) in
+      let j : p .at + 1 + k ≡ p .at + suc k = omega arith in
+      let i : p .mark .index + 1 + k ≡ p .mark .index + suc k = omega arith in
+      let d : p .mark .col + 1 + k ≡ p .mark .col + suc k = omega arith in
+      let b' = on-blank flow (p .mark) c b in
+      rw (f, n)
+      (walks-along w (suc k) (suc k) (more x (rw j at (row-reach l)))
+      (gap-blank flow a b (p .mark) x h ∙ rw (j, i, d) at (gap-spaces flow a b' (λ n. behind-blank flow (p .mark) n c b) l (along (p .mark)))))
 
 gap-break : (flow a : Bool) (b : Before) (m : Mark) {cs : List ℕ} {n : ℕ} → Breaks cs n → isBreak (peek cs 0) ≡ true
     → skip-gap flow a b m cs ≡ skip-gap flow (a || not flow) Leading (new-line n m) (drop n cs)

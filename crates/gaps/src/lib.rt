@@ -12,6 +12,7 @@ ghost use Rattle.reading.specs.Reading.{Reaches};
 ghost use Rattle.gaps.specs.declared.Gapped.the-variants.{Got, Refused};
 ghost use Rattle.gaps.specs.Gap.{Open, Other, Skips, gap-from};
 ghost use Rattle.gaps.specs.Line.{is-low, line, low-run};
+ghost use Rattle.gaps.specs.Spaces.{Spaces, one-space, space-run, spaces-in};
 ghost use Rattle.chars.specs.Parts.{Spans};
 use chars::class::is_blank;
 use chars::class::is_break;
@@ -209,6 +210,68 @@ fn before_of(leads: bool) -> Before
     }
 }
 
+// 1 for a space, else 0.
+fn one_space(b: u8) -> u8
+    ensures { λ r. ⌜ r ≡ one-space b ⌝ }
+{
+    if b == 32 { 1 } else { 0 }
+}
+
+// How many of at most 16 bytes are spaces. The loop has no exit, so that it is vectorised.
+fn spaces_in(s: &[u8]) -> u8
+    requires { ⌜ length (now s) ≤ 16 ⌝ }
+    ensures { λ r. ⌜ r ≡ spaces-in (now (s .entry)) ⌝ }
+{
+    let mut n: u8 = 0;
+    let mut i = 0;
+    while i < s.len() {
+        n += one_space(s[i]);
+        i += 1;
+    }
+    n
+}
+
+// Over blocks of 16 spaces.
+fn past_space_blocks(text: &[u8], start: usize) -> usize
+    requires { ⌜ start ≤ length (now text) ⌝ }
+    ensures { λ r. ⌜ Spaces (now (text .entry)) start r ⌝ }
+{
+    let mut at = start;
+    while at + 16 <= text.len() {
+        if spaces_in(&text[at..at + 16]) != 16 {
+            return at;
+        }
+        at += 16;
+    }
+    at
+}
+
+// Over spaces that stand in blocks, where the place is one that a block is tried at.
+fn past_some_spaces(text: &[u8], at: usize) -> usize
+    requires { ⌜ at ≤ length (now text) ⌝ }
+    ensures { λ r. ⌜ Spaces (now (text .entry)) at r ⌝ }
+{
+    if at % 16 != 0 {
+        return at;
+    }
+    past_space_blocks(text, at)
+}
+
+// Where the spaces end that begin at a place.
+fn past_spaces(text: &[u8], start: usize) -> usize
+    requires { ⌜ start ≤ length (now text) ⌝ }
+    ensures { λ r. ⌜ r ≡ start + space-run (drop start (now (text .entry))) ⌝ }
+{
+    let mut at = start;
+    while at < text.len() {
+        if text[at] != 32 {
+            return at;
+        }
+        at = past_some_spaces(text, at + 1);
+    }
+    at
+}
+
 // The gap that begins here.
 pub fn skip_gap(text: &[u8], start: Place, flow: bool, allowed: bool, leads: bool) -> Gapped
     requires { ⌜ Stands (now text) start ⌝ }
@@ -223,7 +286,8 @@ pub fn skip_gap(text: &[u8], start: Place, flow: bool, allowed: bool, leads: boo
         if is_blank(c as u32) {
             let m = p.mark;
             b = on_blank(flow, m, c, b);
-            p = p.skip_blank();
+            // The spaces behind it, which change nothing more, at once.
+            p = p.skip_n_non_blank((past_spaces(text, at + 1) - at) as u32);
             continue;
         }
         if is_break(c as u32) {

@@ -1,3 +1,4 @@
+pub mod Blocks
 pub mod Ends
 pub mod First
 pub mod On

@@ -1,5 +1,5 @@
 -- The loop over a plain scalar's text.
-use Prim.Native.Nat.{_+_, _-_, _<_, _≤_, ℕ}
+use Prim.Native.Nat.{_+_, _-_, _<_, _≤_, suc, zero, ℕ}
 use mathlib.Core.Bool.{Bool, false, true}
 use mathlib.Core.List.{List, []}
 use mathlib.Core.Path.{_∙_, _≡_, ap, refl, sym}
@@ -18,7 +18,7 @@ use Rattle.chars.specs.Bytes.{ascii-at, ascii-char}
 use Rattle.chars.specs.Parts.{Spans, part, part-more, part-none}
 use Rattle.chars.specs.Places.{stands-along}
 use Rattle.chars.specs.View.{Stands}
-use Rattle.plain.specs.Text.{ordinary, text-length}
+use Rattle.plain.specs.Text.{Ordinaries, ordinary, text-length}
 use Rattle.plain.proofs.Ends.{Goes, blank-unmarked, goes-by, ordinary-ascii, ordinary-unblank, ordinary-unmarked, stops-by, unmarked}
 use Rattle.plain.proofs.Turns.{Coded, coded, resume, resume-here, turn-blank, turn-text}
 
@@ -112,3 +112,16 @@ module _ {s : List ℕ} {flow : Bool} {p : Place} {at end extra : ℕ} (o : On s
         };
         bytes = ap (λ (r : Coded). r .bytes) w;
       })
+
+-- a run of ordinary bytes is turns over one each
+on-turns : {s : List ℕ} {flow : Bool} {p : Place} {at extra : ℕ} → On s flow p at at extra → (n : ℕ)
+    → ((i : ℕ) → at ≤ i → i < at + n → ordinary (getD s i 0) ≡ true) → On s flow p (at + n) (at + n) extra
+on-turns {s} {flow} {p} {at} {extra} o zero h = let k : at ≡ at + 0 = omega arith in rw k at o
+on-turns {s} {flow} {p} {at} {extra} o (suc n) h =
+    let k : at + n + 1 ≡ at + suc n = omega arith in
+    rw k at (on-ordinary (on-turns o n (λ i a b. h i a (omega arith))) (getD s (at + n) 0) refl (h (at + n) (omega arith) (omega arith)))
+
+pub on-run : {s : List ℕ} {flow : Bool} {p : Place} {at extra r : ℕ} → On s flow p at at extra → Ordinaries s at r → On s flow p r r extra
+on-run {s} {flow} {p} {at} {extra} {r} o w =
+    let k : at + (r - at) ≡ r = omega (arith, w .onward) in
+    rw k at (on-turns o (r - at) (λ i a b. w .each i a (omega arith)))

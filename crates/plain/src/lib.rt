@@ -11,7 +11,7 @@ ghost use Rattle.yaml_lexeme.specs.Plain.{plain-stops, plain-text, scan-plain-s
 ghost use Rattle.chars.specs.Parts.{Spans};
 ghost use Rattle.chars.specs.View.{Small, Stands, view};
 ghost use Rattle.reading.specs.Reading.{Given, Lexes, first-at};
-ghost use Rattle.plain.specs.Text.{ends-at-colon, ordinary, text-length};
+ghost use Rattle.plain.specs.Text.{Ordinaries, ends-at-colon, ordinaries-of, ordinary, ordinary-of, text-length};
 use chars::class::is_blank;
 use chars::class::is_blank_or_breakz;
 use chars::class::is_bom;
@@ -83,6 +83,42 @@ fn is_ordinary(b: u8) -> bool
     (45 <= b) & (b <= 57) | (59 <= b) & (b <= 90) | (94 <= b) & (b <= 122)
 }
 
+// 1 for an ordinary byte, else 0.
+fn one_ordinary(b: u8) -> u8
+    ensures { λ r. ⌜ r ≡ ordinary-of b ⌝ }
+{
+    if is_ordinary(b) { 1 } else { 0 }
+}
+
+// How many of at most 16 bytes are ordinary. The loop has no exit, so that it is vectorised.
+fn ordinaries(s: &[u8]) -> u8
+    requires { ⌜ length (now s) ≤ 16 ⌝ }
+    ensures { λ r. ⌜ r ≡ ordinaries-of (now (s .entry)) ⌝ }
+{
+    let mut n: u8 = 0;
+    let mut i = 0;
+    while i < s.len() {
+        n += one_ordinary(s[i]);
+        i += 1;
+    }
+    n
+}
+
+// Past the blocks of 16 ordinary bytes here.
+fn past_blocks(text: &[u8], start: usize) -> usize
+    requires { ⌜ start ≤ length (now text) ⌝ }
+    ensures { λ r. ⌜ Ordinaries (now (text .entry)) start r ⌝ }
+{
+    let mut at = start;
+    while at + 16 <= text.len() {
+        if ordinaries(&text[at..at + 16]) != 16 {
+            return at;
+        }
+        at += 16;
+    }
+    at
+}
+
 // The place `end`, behind characters that have so many bytes more than one each.
 fn behind(start: Place, end: usize, extra: usize) -> Place
     requires { ⌜ Small start × (start .at + extra ≤ end) × (end ≤ start .at + 2 ^ 20) ⌝ }
@@ -95,12 +131,12 @@ fn behind(start: Place, end: usize, extra: usize) -> Place
 }
 
 // The place behind the last character of the text that goes on at `start`, which no blank stands before.
-// The loop counts bytes: one line's marks follow from them.
+// The loop counts bytes: one line's marks follow from them. Blocks are looked for once: to look at each byte would cost words more than it saves.
 fn text_end(text: &[u8], start: Place, flow: bool) -> Place
     requires { ⌜ Stands (now text) start ⌝ }
     ensures { λ r. ⌜ Spans (now (text .entry)) start r (plain-text flow false (start .mark) (chars (drop (start .at) (now (text .entry))))) ⌝ }
 {
-    let mut at = start.at;
+    let mut at = past_blocks(text, start.at);
     let mut end = at;
     let mut extra = 0;
     loop {

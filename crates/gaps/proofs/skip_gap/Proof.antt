@@ -1,5 +1,5 @@
 -- `gaps::skip_gap` meets its contract: the gap from here on, behind what stands before it, is what is left of the gap.
-use Prim.Native.Nat.{_-_, ℕ}
+use Prim.Native.Nat.{_-_, _<_, _≤_, ℕ}
 use mathlib.Core.Bool.{true}
 use mathlib.Core.List.{List, [], _∷_}
 use mathlib.Core.Path.{_∙_, _≡_, refl, sym}
@@ -16,13 +16,12 @@ use Rattle.chars.specs.declared.mark.Place.{Place}
 use Rattle.chars.specs.Ascii.{blank-ascii}
 use Rattle.chars.specs.Bytes.{CharAt, ascii-char, eq-char}
 use Rattle.chars.specs.Places.{small}
-use Rattle.chars.specs.Reach.{reach-one}
-use Rattle.chars.specs.View.{view}
+use Rattle.chars.specs.View.{Stands, view}
 use Rattle.gaps.specs.Answers.{skips-from, skips-refused}
 use Rattle.gaps.specs.Breaks.{BreakAt, break-at}
 use Rattle.gaps.specs.Gap.{Open, gap-from}
-use Rattle.gaps.specs.Walk.{Walks, walks-along, walks-move, walks-start}
-use Rattle.gaps.proofs.Laws.{gap-blank, gap-comment, gap-line, gap-wrong, line-some, open-blank, open-start, other-at}
+use Rattle.gaps.specs.Walk.{Walks, walks-move, walks-start}
+use Rattle.gaps.proofs.Laws.{blanks-some, gap-blanks, gap-comment, gap-line, gap-wrong, line-some, open-blank, open-start, other-at}
 use Rattle.gaps.proofs.skip_gap.Statement.{statement}
 use Rattle.gaps.proofs.skip_gap.Tie as tie
 
@@ -52,6 +51,19 @@ blank c = sym (c .before .is-blank .ensures) ∙ c .if1 .taken
 
 blank-char : (c : Blank) → CharAt (Text (c .before .before)) (Here (c .before .before) .at) (c .before .before .byte .result) 1
 blank-char c = ascii-char _ _ _ (c .before .before .byte .ensures) blank-ascii (blank c)
+
+-- and where the spaces behind it end
+abbrev Passed : Type 0
+Passed = tie.After-past-spaces Inv-loop μ-loop
+
+abbrev passed-from : Passed → K
+passed-from c = c .before .before .before .before .before
+
+stands : (c : Passed) → Stands (Text (passed-from c)) (Here (passed-from c))
+stands c = passed-from c .before .loop .inv .0 .stands
+
+some : (c : Passed) → (Here (passed-from c) .at < c .past-spaces .result) × (c .past-spaces .result ≤ length (Text (passed-from c)))
+some c = blanks-some (Here (passed-from c)) (blank-char (c .before .before .before)) (c .past-spaces .ensures)
 
 -- it is a break
 abbrev Break : Type 0
@@ -91,18 +103,30 @@ is-blank-requires c κs = search needs
 on-blank-requires : tie.Need-on-blank-requires Inv-loop μ-loop
 on-blank-requires c κs = search needs
 
-skip-blank-requires : tie.Need-skip-blank-requires Inv-loop μ-loop
-skip-blank-requires c κs = small (c .before .before .before .before .before .loop .inv .0 .stands) (search needs)
+add-past-spaces : tie.Need-add-past-spaces Inv-loop μ-loop
+add-past-spaces c = let h = blank-char (c .before .before) .within in search needs
+
+past-spaces-requires : tie.Need-past-spaces-requires Inv-loop μ-loop
+past-spaces-requires c κs = blank-char (c .before .before) .within
+
+sub-skip-n-non-blank : tie.Need-sub-skip-n-non-blank Inv-loop μ-loop
+sub-skip-n-non-blank c = omega (arith, some c)
+
+cast-skip-n-non-blank : tie.Need-cast-skip-n-non-blank Inv-loop μ-loop
+cast-skip-n-non-blank c = omega (arith, some c, stands c)
+
+skip-n-non-blank-requires : tie.Need-skip-n-non-blank-requires Inv-loop μ-loop
+skip-n-non-blank-requires c κs = (small (stands c) (search needs), omega (arith, some c, stands c))
 
 loop-less : tie.Need-loop-less Inv-loop μ-loop
-loop-less c = rw (c .skip-blank .ensures) (omega (arith, blank-char (c .before .before .before)))
+loop-less c = rw (c .skip-n-non-blank .ensures) (omega (arith, some (c .before)))
 
 loop-again : tie.Need-loop-again Inv-loop μ-loop
 loop-again c =
-    let i = c .before .before .before .before .before .before .loop .inv in
-    let x = blank-char (c .before .before .before) in
-    rw (c .skip-blank .ensures, c .before .on-blank .ensures)
-    (walks-along (i .0) 1 1 (reach-one x) (gap-blank _ _ _ _ x (blank (c .before .before .before))), open-blank _ _ _ _ (i .1))
+    let k = c .before .before .before .before in
+    let i = k .before .before .before .loop .inv in
+    rw (c .before .before .on-blank .ensures)
+    (gap-blanks _ (blank-char k) (c .before .past-spaces .ensures) _ _ _ (blank k) (i .0) (c .skip-n-non-blank .ensures), open-blank _ _ _ _ (i .1))
 
 cast-is-break : tie.Need-cast-is-break Inv-loop μ-loop
 cast-is-break c = search needs
@@ -169,7 +193,11 @@ skip-gap-spec =
     cast-is-blank
     is-blank-requires
     on-blank-requires
-    skip-blank-requires
+    add-past-spaces
+    past-spaces-requires
+    sub-skip-n-non-blank
+    cast-skip-n-non-blank
+    skip-n-non-blank-requires
     loop-less
     loop-again
     cast-is-break

@@ -3,7 +3,7 @@ use mathlib.Core.Path.{_∙_, sym}
 use native.Mathlib.Omega.{arith}
 use lib.ListN.{length}
 use borrow.Author.Needs.{needs}
-use Rattle.plain.proofs.On.{On, on-blank, on-done, on-ordinary, on-other, on-start}
+use Rattle.plain.proofs.On.{On, on-blank, on-done, on-ordinary, on-other, on-run, on-start}
 use Rattle.plain.proofs.text_end.Statement.{statement}
 use Rattle.plain.proofs.text_end.Tie as tie
 
@@ -13,8 +13,11 @@ Inv-loop text start flow at₀ end₀ extra₀ at end extra = On text flow start
 abbrev μ-loop : tie.MeasureT-loop
 μ-loop text start flow at₀ end₀ extra₀ at end extra = length text - at
 
+past-blocks-requires : tie.Need-past-blocks-requires Inv-loop μ-loop
+past-blocks-requires c κs = search needs
+
 loop-holds : tie.Need-loop-holds Inv-loop μ-loop
-loop-holds c = on-start _ _ _ (search needs)
+loop-holds c = on-run (on-start _ _ _ (c .before .before .pre .within)) (c .past-blocks .ensures)
 
 byte-requires : tie.Need-byte-requires Inv-loop μ-loop
 byte-requires c κs = search needs
@@ -57,7 +60,7 @@ behind-requires c κs = search needs
 returns : tie.Need-returns Inv-loop μ-loop
 returns c =
     let t = c .before .before in
-    on-done (t .before .before .before .before .before .before .loop .inv) (t .before .before .before .before .before .before .before .before .pre) _ (t .text-length .ensures) (c .before .if3 .taken) _ (c .behind .ensures)
+    on-done (t .before .before .before .before .before .before .loop .inv) (t .before .before .before .before .before .before .before .before .before .pre) _ (t .text-length .ensures) (c .before .if3 .taken) _ (c .behind .ensures)
 
 -- over any other character
 loop-again-3 : tie.Need-loop-again-3 Inv-loop μ-loop
@@ -83,6 +86,7 @@ text-end-spec =
     (tie.spec
     Inv-loop
     μ-loop
+    past-blocks-requires
     loop-holds
     byte-requires
     is-ordinary-requires
