@@ -12,14 +12,13 @@ use Rattle.yaml_lexeme.specs.Held.{laid}
 use Rattle.yaml_lexeme.specs.Token.{FlowEntry, FlowMappingEnd, FlowMappingStart, FlowSequenceEnd, FlowSequenceStart, Kind, kind-bytes}
 use Rattle.yaml_scan.specs.declared.Limits.{Limits}
 use Rattle.yaml_scan.specs.State.{News}
-use Rattle.news.specs.declared.Opening.{Opening}
-use Rattle.news.specs.declared.Opening.the-variants as opening
 use Rattle.chars.specs.View.{Stands}
 use Rattle.stacks.specs.Indent.{Low}
-use Rattle.states.specs.declared.Fetched.{Fetched}
+use Rattle.states.specs.declared.Brief.{Brief}
 use Rattle.states.specs.declared.State.{State}
+use Rattle.states.specs.Brief.{brief-fetched}
 use Rattle.states.specs.Fetch.{FetchesQuiet}
-use Rattle.states.specs.Laid.{Textless, opening-if}
+use Rattle.states.specs.Laid.{Textless}
 use Rattle.states.specs.State.{KeysLow, state-of}
 use Rattle.brackets.specs.Emit.{Emits, emit-bracket}
 
@@ -40,10 +39,10 @@ unfolding laid kind-bytes
 entry = record { same = λ used. refl; bytes = refl }
 
 -- the fetcher from s emitted from t, which is u, as the definition's d
-pub emitted : {limits : Limits} {rest text frames es fs : List ℕ} {count used : ℕ} {s t u : State} {o : Opening} {g h : held.Kind} {k : Kind} {last : Bool} {d : Read News} {r : Fetched}
-    (implicit : Bool) → d ≡ emit-bracket k implicit last (state-of text es fs count u) → Emits rest o h t last r → o ≡ opening-if implicit opening.FlowMappingEnd → h ≡ g → Textless k g → t ≡ u → s .place ≡ u .place
+pub emitted : {limits : Limits} {rest text frames es fs : List ℕ} {count used : ℕ} {s t u : State} {g h : held.Kind} {k : Kind} {last : Bool} {implicit : Bool} {d : Read News} {r : Brief}
+    → d ≡ emit-bracket k implicit last (state-of text es fs count u) → Emits rest implicit h t last r → h ≡ g → Textless k g → t ≡ u → s .place ≡ u .place
     → rest ≡ drop (s .place .at) text → Stands text (s .place) → Low (limits .entries) 1_048_577 es (u .indents) → u .depth ≤ limits .levels → KeysLow fs
-    → FetchesQuiet limits text frames es fs count used s d r
-emitted {limits} {rest} {text} {frames} {es} {fs} {count} {used} {s} {u = u} {o = o} {g = g} {k = k} {last = last} {r = r} implicit i w e b z a p q stands low deep keys =
-    let v : Emits rest o g u last r = rw (a, b) at w in
-    rw i (v .quiet k implicit z e limits text frames es fs count used s (rw p at q) (record { stands = rw p at stands; low = low; deep = deep; keys = keys }) p)
+    → FetchesQuiet limits text frames es fs count used s d (brief-fetched r)
+emitted {limits} {rest} {text} {frames} {es} {fs} {count} {used} {s} {u = u} {g = g} {k = k} {last = last} {implicit = implicit} {r = r} i w b z a p q stands low deep keys =
+    let v : Emits rest implicit g u last r = rw (a, b) at w in
+    rw i (v .quiet k z limits text frames es fs count used s (rw p at q) (record { stands = rw p at stands; low = low; deep = deep; keys = keys }) p)

@@ -19,14 +19,13 @@ use Rattle.chars.specs.Bytes.{byte-char}
 use Rattle.chars.specs.Places.{moves-along, stands-along}
 use Rattle.chars.specs.Reach.{reach-one}
 use Rattle.chars.specs.View.{Stands, past, view}
-use Rattle.news.specs.declared.Opening.{Opening}
 use Rattle.reading.specs.declared.Reached.{Reached}
 use Rattle.reading.specs.declared.Reached.the-variants as reached
 use Rattle.reading.specs.Reading.{Reaches, first-at, seen-place}
-use Rattle.states.specs.declared.Fetched.the-variants.{Goes, Refused}
+use Rattle.states.specs.declared.Brief.the-variants.{Goes, Refused}
 use Rattle.states.specs.declared.State.{State}
 use Rattle.states.specs.Goes.{fetch-quiet, fetch-refused}
-use Rattle.states.specs.Laid.{laid-opening, laid-textless, opening-of, opens-flow-end, said-opening, textless-size}
+use Rattle.states.specs.Laid.{laid-opening, laid-textless, opens-flow-end, said-opening, textless-size}
 use Rattle.states.specs.Rest.{behind-stands, behind-view, rest-view}
 use Rattle.states.specs.Say.{laid-events}
 use Rattle.states.specs.State.{behind-of, state-of}
@@ -67,18 +66,18 @@ module _ {rest : List ℕ} {p : Place} (h : AtBracket rest p) where
     pub past-index : next .mark .index < 2 ^ 31
     past-index = omega (arith, past-stands .0)
 
-module _ {rest : List ℕ} (s : State) (h : AtBracket rest (s .place)) {r : Reached} (w : Past rest (s .place .mark) r) (o : Opening) (c : held.Kind) (closes : Bool) where
-  pub emits-refused : {f : Refusal} → r ≡ reached.Refused f → Emits rest o c s closes (Refused f)
+module _ {rest : List ℕ} (s : State) (h : AtBracket rest (s .place)) {r : Reached} (w : Past rest (s .place .mark) r) (implicit : Bool) (c : held.Kind) (closes : Bool) where
+  pub emits-refused : {f : Refusal} → r ≡ reached.Refused f → Emits rest implicit c s closes (Refused f)
   unfolding emit-bracket seen-place _>>=_
   emits-refused q =
-      record { quiet = λ k implicit z e limits text frames es fs count used s₀ d sane same. fetch-refused (rw (scanned h w text d k, q)) }
+      record { quiet = λ k z limits text frames es fs count used s₀ d sane same. fetch-refused (rw (scanned h w text d k, q)) }
 
   pub emits-to : {next p : Place} {t : State} → r ≡ reached.To next → p ≡ behind-of (s .place) next → t ≡ s-past s p closes
-      → Emits rest o c s closes (Goes t (opening-of o (record { kind = c; start = s .place .mark; end = next .mark })))
+      → Emits rest implicit c s closes (Goes t implicit (record { kind = c; start = s .place .mark; end = next .mark }))
   unfolding emit-bracket seen-place _>>=_ laid-events
   emits-to {next} q a b =
       record {
-        quiet = λ k implicit z e limits text frames es fs count used s₀ d sane same.
+        quiet = λ k z limits text frames es fs count used s₀ d sane same.
             let m = s .place .mark in
             let token = put (record { kind = k; start = m; end = next .mark }) ∷ [] in
             let on = past-stands h q w in
@@ -86,7 +85,7 @@ module _ {rest : List ℕ} (s : State) (h : AtBracket rest (s .place)) {r : Reac
             let none = textless-size z in
             rw (b, a)
             (fetch-quiet (empty-if implicit FlowMappingEnd m ++ token)
-            (said-opening _ _ o ∙ rw (e, laid-opening opens-flow-end used m token implicit, laid-textless z used m (next .mark) []))
+            (said-opening _ _ _ ∙ rw (laid-opening opens-flow-end used m token implicit, laid-textless z used m (next .mark) []))
             (past-bracket (view rest next) closes (state-of text es fs count s))
             (rw (scanned h w text d k, q))
             (rw (behind-view text (s .place) d next))

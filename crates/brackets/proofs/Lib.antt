@@ -1,3 +1,4 @@
+pub mod Line
 pub mod Emitted
 pub mod Stacked
 pub mod Levels

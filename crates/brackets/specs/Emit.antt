@@ -19,17 +19,17 @@ use Rattle.yaml_scan.specs.State.{News, emit, empty-if, mark-of, put}
 use Rattle.yaml_scan.specs.State as definition
 use Rattle.chars.specs.declared.mark.Place.{Place}
 use Rattle.chars.specs.View.{Stands}
-use Rattle.news.specs.declared.Opening.{Opening}
-use Rattle.news.specs.declared.Opening.the-variants as opening
 use Rattle.reading.specs.Reading.{first-at}
 use Rattle.stacks.specs.declared.indent.Stacked.{Stacked}
 use Rattle.stacks.specs.declared.indent.Stacked.the-variants as stacked
 use Rattle.stacks.specs.Frame.{frame-keys, frame-levels}
 use Rattle.stacks.specs.Indent.{LowStacked}
+use Rattle.states.specs.declared.Brief.{Brief}
 use Rattle.states.specs.declared.Fetched.{Fetched}
 use Rattle.states.specs.declared.State.{State}
+use Rattle.states.specs.Brief.{brief-fetched}
 use Rattle.states.specs.Fetch.{FetchesQuiet, FetchesRest, Ready}
-use Rattle.states.specs.Laid.{Textless, opening-if}
+use Rattle.states.specs.Laid.{Textless}
 use Rattle.states.specs.Rest.{rest-stands}
 use Rattle.states.specs.State.{KeysLow, Sane, s-with-indents, state-of}
 
@@ -74,10 +74,10 @@ emit-bracket k implicit closes x = do
   emit (empty-if implicit FlowMappingEnd (mark-of x) ++ (put (l .token) ∷ [])) (past-bracket (l .place) closes x)
 
 -- `emit_bracket` from the state s, which a fetcher made of s₀
-pub record Emits (rest : List ℕ) (o : Opening) (h : held.Kind) (s : State) (closes : Bool) (r : Fetched) : Type 0 where
-  pub quiet : (k : Kind) (implicit : Bool) → Textless k h → o ≡ opening-if implicit opening.FlowMappingEnd
+pub record Emits (rest : List ℕ) (implicit : Bool) (h : held.Kind) (s : State) (closes : Bool) (r : Brief) : Type 0 where
+  pub quiet : (k : Kind) → Textless k h
       → (limits : Limits) (text frames es fs : List ℕ) (count used : ℕ) (s₀ : State) → rest ≡ drop (s .place .at) text → Sane limits text es fs s → s₀ .place ≡ s .place
-      → FetchesQuiet limits text frames es fs count used s₀ (emit-bracket k implicit closes (state-of text es fs count s)) r
+      → FetchesQuiet limits text frames es fs count used s₀ (emit-bracket k implicit closes (state-of text es fs count s)) (brief-fetched r)
 
 abbrev pub stacked-state : List ℕ → List ℕ → List ℕ → ℕ → State → Stacked → Read definition.State
 stacked-state text entries frames count s (stacked.Got i) = got (state-of text entries frames count (s-with-indents s i))

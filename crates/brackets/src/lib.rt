@@ -4,17 +4,18 @@ ghost use mathlib.Core.Path.{_≡_};
 ghost use lib.ListN.{length};
 ghost use Rattle.yaml_text.specs.Pick.{pick};
 ghost use Rattle.yaml_lexeme.specs.declared.Kind.the-variants as kind;
+ghost use Rattle.yaml_lexeme.specs.Gap.{blanks-and-comment};
 ghost use Rattle.yaml_scan.specs.Bracket.{fetch-flow-collection-end, fetch-flow-collection-start, fetch-flow-entry, new-level};
-ghost use Rattle.news.specs.declared.Opening.the-variants as opening;
+ghost use Rattle.chars.specs.View.{Stands, view};
+ghost use Rattle.reading.specs.Reading.{Reaches};
 ghost use Rattle.stacks.specs.Indent.{Low};
+ghost use Rattle.states.specs.declared.Brief.the-variants as brief;
+ghost use Rattle.states.specs.Brief.{brief-fetched};
 ghost use Rattle.states.specs.Fetch.{FetchesRest, Ready};
-ghost use Rattle.states.specs.Laid.{opening-if};
 ghost use Rattle.brackets.specs.Emit.{AtBracket, Emits, FetchesFlow, OpensLevel, StacksBracket, s-past};
+use chars::class::is_blank;
 use chars::mark::Place;
 use gaps::blanks_and_comment;
-use news::Event;
-use news::Note;
-use news::Opening;
 use reading::Reached;
 use stacks::frame::clear_key;
 use stacks::frame::level;
@@ -22,14 +23,25 @@ use stacks::frame::set_level;
 use stacks::indent::Stacked;
 use stacks::indent::stack;
 use stacks::indent::top_ends;
-use states::Fetched;
+use states::Brief;
 use states::State;
 use states::behind;
-use states::refuse;
+use utf8::byte;
 use yaml_lexeme::Kind;
 use yaml_lexeme::Token;
 use yaml_scan::Level;
 use yaml_scan::Limits;
+use yaml_text::Mark;
+use yaml_text::Refusal;
+
+fn refuse(number: u32, mark: Mark) -> Brief
+    ensures { λ r. ⌜ r ≡ brief.Refused (record { number = number; mark = mark }) ⌝ }
+{
+    Brief::Refused(Refusal {
+        number: number,
+        mark: mark,
+    })
+}
 
 // A fresh entry of a level.
 fn new_level(sequence: bool) -> Level
@@ -55,17 +67,30 @@ fn past_bracket(s: State, p: Place, closes: bool) -> State
     t
 }
 
+// The blanks and comment here; at once where neither begins.
+fn rest_of_line(text: &[u8], start: Place) -> Reached
+    requires { ⌜ Stands (now text) start ⌝ }
+    ensures { λ r. ⌜ Reaches (now (text .entry)) start r (blanks-and-comment (view (now (text .entry)) start)) ⌝ }
+{
+    let from = start.at;
+    let c = byte(text, from);
+    if is_blank(c as u32) | (c == 35) {
+        return blanks_and_comment(text, start);
+    }
+    Reached::To(start)
+}
+
 // The character here, with the blanks and comment behind it, and on from behind them.
-fn emit_bracket(text: &[u8], opening: Opening, kind: Kind, s: State, closes: bool) -> Fetched
+fn emit_bracket(text: &[u8], pair: bool, kind: Kind, s: State, closes: bool) -> Brief
     requires { ⌜ AtBracket (now text) (s .place) ⌝ }
-    ensures { λ r. ⌜ Emits (now (text .entry)) opening kind s closes r ⌝ }
+    ensures { λ r. ⌜ Emits (now (text .entry)) pair kind s closes r ⌝ }
 {
     let p = s.place;
     let start = p.mark;
     let first = Place { at: 0, mark: start };
-    let r = blanks_and_comment(text, first.skip_blank());
+    let r = rest_of_line(text, first.skip_blank());
     match r {
-        Reached::Refused(f) => Fetched::Refused(f),
+        Reached::Refused(f) => Brief::Refused(f),
         Reached::To(next) => {
             let end = next.mark;
             let t = Token {
@@ -73,13 +98,7 @@ fn emit_bracket(text: &[u8], opening: Opening, kind: Kind, s: State, closes: boo
                 start: start,
                 end: end,
             };
-            let e = Event {
-                note: Note::Nothing,
-                closed: 0,
-                opening: opening,
-                token: t,
-            };
-            Fetched::Goes(past_bracket(s, behind(p, next), closes), e)
+            Brief::Goes(past_bracket(s, behind(p, next), closes), pair, t)
         }
     }
 }
@@ -136,9 +155,9 @@ pub fn fetch_flow_collection_start(
     count: u32,
     entries: &mut [u32],
     frames: &mut [u32],
-) -> Fetched
+) -> Brief
     requires { ⌜ Ready limits (now entries) (now frames) s × AtBracket (now text) (s .place) ⌝ }
-    ensures { λ r. ⌜ FetchesRest limits (now (text .entry)) (now (entries .entry)) (now (frames .entry)) (now (entries .exit)) (now (frames .exit)) count s (λ t. fetch-flow-collection-start limits sequence t) r ⌝ }
+    ensures { λ r. ⌜ FetchesRest limits (now (text .entry)) (now (entries .entry)) (now (frames .entry)) (now (entries .exit)) (now (frames .exit)) count s (λ t. fetch-flow-collection-start limits sequence t) (brief-fetched r) ⌝ }
 {
     s.save_key(count, entries, frames);
     let r = stack_bracket(limits, s, entries);
@@ -151,32 +170,17 @@ pub fn fetch_flow_collection_start(
     open_level(frames, s.depth, sequence);
     emit_bracket(
         text,
-        Opening::Nothing,
+        false,
         opening_kind(sequence),
         s.with_indents(i).with_depth(s.depth + 1),
         false,
     )
 }
 
-// The end of an implicit pair, at ',' or ']'.
-fn pair_end(l: Level) -> Opening
-    ensures { λ r. ⌜ r ≡ opening-if (l .implicit) opening.FlowMappingEnd ⌝ }
-{
-    if l.implicit {
-        return Opening::FlowMappingEnd;
-    }
-    Opening::Nothing
-}
-
 // ']' or '}'. 47: not the latest open one's kind, or none is open.
-pub fn fetch_flow_collection_end(
-    text: &[u8],
-    sequence: bool,
-    s: State,
-    frames: &mut [u32],
-) -> Fetched
+pub fn fetch_flow_collection_end(text: &[u8], sequence: bool, s: State, frames: &mut [u32]) -> Brief
     requires { ⌜ AtBracket (now text) (s .place) × (s .depth * 6 + 6 ≤ length (now frames)) ⌝ }
-    ensures { λ r. ⌜ FetchesFlow (now (text .entry)) (now (frames .entry)) (now (frames .exit)) s (λ t. fetch-flow-collection-end sequence t) r ⌝ }
+    ensures { λ r. ⌜ FetchesFlow (now (text .entry)) (now (frames .entry)) (now (frames .exit)) s (λ t. fetch-flow-collection-end sequence t) (brief-fetched r) ⌝ }
 {
     if s.depth == 0 {
         return refuse(47, s.place.mark);
@@ -188,7 +192,7 @@ pub fn fetch_flow_collection_end(
     if s.remove_key(frames) {
         return emit_bracket(
             text,
-            pair_end(l),
+            l.implicit,
             closing_kind(sequence),
             s.with_depth(s.depth - 1),
             true,
@@ -198,14 +202,14 @@ pub fn fetch_flow_collection_end(
 }
 
 // ',' in flow.
-pub fn fetch_flow_entry(text: &[u8], s: State, frames: &mut [u32]) -> Fetched
+pub fn fetch_flow_entry(text: &[u8], s: State, frames: &mut [u32]) -> Brief
     requires { ⌜ AtBracket (now text) (s .place) × (s .depth * 6 + 6 ≤ length (now frames)) × (0 < s .depth) ⌝ }
-    ensures { λ r. ⌜ FetchesFlow (now (text .entry)) (now (frames .entry)) (now (frames .exit)) s (λ t. fetch-flow-entry t) r ⌝ }
+    ensures { λ r. ⌜ FetchesFlow (now (text .entry)) (now (frames .entry)) (now (frames .exit)) s (λ t. fetch-flow-entry t) (brief-fetched r) ⌝ }
 {
     if s.remove_key(frames) {
         let l = level(frames, s.depth);
         set_level(frames, s.depth, new_level(l.sequence));
-        return emit_bracket(text, pair_end(l), Kind::FlowEntry, s, false);
+        return emit_bracket(text, l.implicit, Kind::FlowEntry, s, false);
     }
     refuse(41, s.place.mark)
 }

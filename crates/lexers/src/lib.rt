@@ -7,6 +7,7 @@ ghost use Rattle.yaml_text.specs.Class.{isZ, peek};
 ghost use Rattle.yaml_text.specs.Utf8.{chars};
 ghost use Rattle.yaml_scan.specs.Choice.{fetch-anchor, fetch-block-scalar, fetch-directive, fetch-flow-scalar, fetch-plain-scalar, fetch-tag};
 ghost use Rattle.reading.specs.Reading.{Given, Indicated};
+ghost use Rattle.states.specs.Brief.{brief-fetched};
 ghost use Rattle.states.specs.State.{s-adjacent-here, s-moved, s-with-indents};
 ghost use Rattle.lexers.specs.Lexeme.{Fetching, FetchesLexeme, Fits, clipped, fetched-of};
 use markers::Left;
@@ -14,6 +15,7 @@ use markers::leave_blocks;
 use reading::Reading;
 use stacks::indent::Unrolled;
 use stacks::indent::drop_non_ending;
+use states::Brief;
 use states::Counts;
 use states::Fetched;
 use states::State;
@@ -44,6 +46,20 @@ fn fetched(r: Reading, s: State, leads: bool, allowed: bool) -> Fetched
     }
 }
 
+// The same of a plain scalar.
+fn brief(r: Reading, s: State) -> Brief
+    requires { ⌜ Fits (s .place) r ⌝ }
+    ensures { λ e. ⌜ brief-fetched e ≡ fetched-of (λ p. s-moved s p false false) 0 (s .place) r ⌝ }
+{
+    match r {
+        Reading::Refused(f) => Brief::Refused(f),
+        Reading::Got(l) => {
+            let t = l.token;
+            Brief::Goes(s.moved(behind(s.place, l.next), false, false), false, t)
+        }
+    }
+}
+
 pub fn fetch_plain_scalar(
     text: &[u8],
     s: State,
@@ -51,14 +67,14 @@ pub fn fetch_plain_scalar(
     entries: &[u32],
     frames: &mut [u32],
     bytes: &mut [u8],
-) -> Fetched
+) -> Brief
     requires { ⌜ Fetching (now text) (now entries) (now frames) s × Given (now text) (s .place .mark) (n .used) × (isZ (peek (chars (now text)) 0) ≡ false) ⌝ }
-    ensures { λ r. ⌜ FetchesLexeme (now (text .entry)) (now (entries .entry)) (now (frames .entry)) (now (frames .exit)) (now (bytes .entry)) (now (bytes .exit)) (n .count) (n .used) s (λ t. fetch-plain-scalar t) r ⌝ }
+    ensures { λ r. ⌜ FetchesLexeme (now (text .entry)) (now (entries .entry)) (now (frames .entry)) (now (frames .exit)) (now (bytes .entry)) (now (bytes .exit)) (n .count) (n .used) s (λ t. fetch-plain-scalar t) (brief-fetched r) ⌝ }
 {
     let from = unused_from(n.used, bytes.len());
     let r = plain::scan_plain_scalar(text, s.place.mark, 0 < s.depth, n.used, &mut bytes[from..]);
     s.save_key(n.count, entries, frames);
-    fetched(r, s, false, false)
+    brief(r, s)
 }
 
 // ':' may stand directly behind a quoted scalar (K5).

@@ -21,7 +21,7 @@ use Rattle.states.specs.Goes.{countable, note-few, opening-few, ready}
 use Rattle.states.specs.Laid.{puts-append, texts-append}
 use Rattle.states.specs.Say.{Countable, counted-of, event-texts}
 use Rattle.states.specs.State.{Lent}
-use Rattle.scanner.specs.Run.{Few, Fine, Tells}
+use Rattle.scanner.specs.Run.{Few, Fine, Tells, ending}
 
 -- how many tokens go in before others
 
@@ -61,10 +61,6 @@ tells-then {n} {l = l} {b = b} {es = es} {fs = fs} f g =
 
 pub few-more : {n : Counts} {at to : ℕ} → at ≤ to → Few n at → Few n to
 few-more h f = record { count = omega (arith, f); put-in = omega (arith, f); used = omega (arith, f) }
-
--- behind so many ends of blocks
-abbrev pub ending : Counts → ℕ → Counts
-ending n ended = record { count = n .count + ended; «put_in» = n .«put_in»; used = n .used }
 
 module _ {n : Counts} {at to ended : ℕ} (e : news.Event) (f : Few n at) (few : ended ≤ 255) (closed : e .closed ≤ 255)
     (size : 3 * at + text-size (e .token .kind) ≤ 3 * to) where

@@ -14,7 +14,8 @@ use Rattle.yaml_text.specs.declared.Refusal.{Refusal}
 use Rattle.yaml_scan.specs.declared.Limits.{Limits}
 use Rattle.yaml_scan.specs.State.{Event, News, block-ends, ends-with, goes-on}
 use Rattle.yaml_scan.specs.State as definition
-use Rattle.yaml_scan.specs.Choice.{fetch-next}
+use Rattle.yaml_scan.specs.declared.Choice.{Choice}
+use Rattle.yaml_scan.specs.Choice.{choice, fetch-next}
 use Rattle.yaml_scan.specs.Scan.{after-step, spent, step, stopped, to-next-token}
 use Rattle.news.specs.declared.Event as news
 use Rattle.sink.specs.Put.{put-news}
@@ -31,9 +32,10 @@ use Rattle.states.specs.Say as say
 use Rattle.states.specs.State.{key-mark, state-of}
 use Rattle.states.specs.Weighed.{bytes-said, puts-said}
 use Rattle.choices.specs.Advance.{Arrives}
-use Rattle.scanner.specs.Run.{Fine, Goes, Scans, Tells, behind-ends}
-use Rattle.steps.specs.Step.{Steps}
-use Rattle.scanner.proofs.Tell.{counts, ending, few-counted, few-more, lent-kept, puts-in-ends}
+use Rattle.choices.specs.Choice.{Says}
+use Rattle.scanner.specs.Run.{Fine, Goes, Scans, Tells, behind-ends, ending}
+use Rattle.steps.specs.Step.{Chosen, Steps}
+use Rattle.scanner.proofs.Tell.{counts, few-counted, few-more, fine-ready, lent-kept, puts-in-ends}
 
 -- what is heard is what the definition says
 
@@ -59,32 +61,33 @@ heard-refused used (refused n m) e = cc
 
 -- the event that was fetched
 
-pub data Says : Fetched → news.Event → Type 0 where
-  ends : {e : news.Event} → Says (fetched.Ends e) e
-  goes : {t : State} {e : news.Event} → Says (fetched.Goes t e) e
+pub data Heard : Fetched → news.Event → Type 0 where
+  ends : {e : news.Event} → Heard (fetched.Ends e) e
+  goes : {t : State} {e : news.Event} → Heard (fetched.Goes t e) e
 
 module _ {r : Fetched} {e : news.Event} where
-  pub says-as : {x : Fetched} {f : news.Event} → r ≡ x → e ≡ f → Says x f → Says r e
-  says-as p q h = rw (p, q) h
+  pub heard-as : {x : Fetched} {f : news.Event} → r ≡ x → e ≡ f → Heard x f → Heard r e
+  heard-as p q h = rw (p, q) h
 
-  module _ {x : Fetched} (h : Says r e) (same : x ≡ r) where
+  module _ {x : Fetched} (h : Heard r e) (same : x ≡ r) where
     pub says-goes : {t : State} {f : news.Event} → x ≡ fetched.Goes t f → r ≡ fetched.Goes t e
     says-goes q = by-event h (sym same ∙ q)
       where
-        by-event : {y : Fetched} {g f : news.Event} {t : State} → Says y g → y ≡ fetched.Goes t f → y ≡ fetched.Goes t g
+        by-event : {y : Fetched} {g f : news.Event} {t : State} → Heard y g → y ≡ fetched.Goes t f → y ≡ fetched.Goes t g
         by-event ends p = let z : _≡_ {A = ℕ} 0 1 = cc in absurd (omega arith)
         by-event goes p = cc
 
     pub says-ends : (tagOf the-type x ≡ 1) ⊎ (tagOf the-type x ≡ 2) → r ≡ fetched.Ends e
     says-ends q = by-event h (rw same at q)
       where
-        by-event : {y : Fetched} {g : news.Event} → Says y g → (tagOf the-type y ≡ 1) ⊎ (tagOf the-type y ≡ 2) → y ≡ fetched.Ends g
+        by-event : {y : Fetched} {g : news.Event} → Heard y g → (tagOf the-type y ≡ 1) ⊎ (tagOf the-type y ≡ 2) → y ≡ fetched.Ends g
         by-event ends p = refl
         by-event goes p = absurd (miss (1 ∷ 2 ∷ []) 0 tt p)
 
 -- one token, behind so many ends of blocks
 
-module _ {limits : Limits} {text entries frames : List ℕ} {s : State} {n : Counts} (h : Fine limits text entries frames s n) (ended : ℕ) (few : ended ≤ 255) where
+module _ {limits : Limits} {text entries frames : List ℕ} {s : State} {n : Counts} (h : Fine limits text entries frames s n) (ended : ℕ) (few : ended ≤ 255)
+    {k : Counts} (behind : k ≡ ending n ended) where
   abbrev here : Mark
   here = s .place .mark
 
@@ -96,37 +99,43 @@ module _ {limits : Limits} {text entries frames : List ℕ} {s : State} {n : Cou
         → l' ≡ put-news l (n .count) here ended e → b' ≡ sets b (n .used) (event-texts hs) → m ≡ counted-of (ending n ended) e
         → Tells n m l b l' b' (block-ends ended here ++ hs)
     tells-news e hs said stored written counted =
-        let k = key-mark (key-of frames (s .depth)) in
+        let m = key-mark (key-of frames (s .depth)) in
         let t = texts-ends here hs ended in
         let p = puts-in-ends ended here hs in
         record {
-          words = stored ∙ news-sunk e here ended k l (n .count) (n .used) hs said;
+          words = stored ∙ news-sunk e here ended m l (n .count) (n .used) hs said;
           bytes = rw t written;
-          count = rw counted (omega (arith, puts-ends here hs ended, puts-said k e (n .used) hs said));
-          put-in = rw counted (omega (arith, puts-in-said k e (n .used) hs said));
-          used = rw (counted, t, bytes-said k e (n .used) hs said);
+          count = rw counted (omega (arith, puts-ends here hs ended, puts-said m e (n .used) hs said));
+          put-in = rw counted (omega (arith, puts-in-said m e (n .used) hs said));
+          used = rw (counted, t, bytes-said m e (n .used) hs said);
         }
 
+  -- what the fetchers ask for
+  pub token-chosen : {c : Choice} → Says text s (λ t. choice t) c → Chosen limits text entries frames (k .used) s c
+  token-chosen y =
+      rw behind (record { ready = fine-ready h; stands = h .sane .stands; room = omega (arith, h .short, h .few .used, h .sane .stands .within); says = y })
+
   module _ {es fs b b' : List ℕ} where
-    pub token-refused : {f : Refusal} → Steps limits text entries frames es fs b b' (n .count + ended) (n .used) s (fetched.Refused f)
+    pub token-refused : {f : Refusal} → Steps limits text entries frames es fs b b' (k .count) (k .used) s (fetched.Refused f)
         → after-step d (λ t. spent) ≡ stopped (f .number) (f .mark)
     unfolding _>>=_ fetched-seen
-    token-refused w = rw (heard-refused (n .used) _ (w .fetches .same))
+    token-refused v = let w = rw behind at v in rw (heard-refused (n .used) _ (w .fetches .same))
 
-    pub token-counts : {r : Fetched} {e : news.Event} → Steps limits text entries frames es fs b b' (n .count + ended) (n .used) s r → Says r e
-        → Countable (ending n ended) e
+    pub token-counts : {r : Fetched} {e : news.Event} → Steps limits text entries frames es fs b b' (k .count) (k .used) s r → Heard r e
+        → Countable k e
     token-counts w (ends {e = e}) =
         let a = w .fetches .after in
-        counts {to = s .place .at + 1} e (h .few) few (a .0) (omega (arith, a .1)) (omega (arith, h .short, h .sane .stands .within))
+        rw behind (counts {to = s .place .at + 1} e (h .few) few (a .0) (omega (arith, a .1)) (omega (arith, h .short, h .sane .stands .within)))
     token-counts w (goes {e = e}) =
         let a = w .fetches .after in
-        counts e (h .few) few (a .closed) (a .size) (omega (arith, h .short, a .sane .stands .within))
+        rw behind (counts e (h .few) few (a .closed) (a .size) (omega (arith, h .short, a .sane .stands .within)))
 
-    pub token-ends : {r : Fetched} {l l' : List ℕ} {e : news.Event} {m : Counts} → Steps limits text entries frames es fs b b' (n .count + ended) (n .used) s r
-        → r ≡ fetched.Ends e → l' ≡ put-news l (n .count) here ended e → m ≡ counted-of (ending n ended) e → Scans (after-step d (λ t. spent)) n m l b l' b'
+    pub token-ends : {r : Fetched} {l l' : List ℕ} {e : news.Event} {m : Counts} → Steps limits text entries frames es fs b b' (k .count) (k .used) s r
+        → r ≡ fetched.Ends e → l' ≡ put-news l (n .count) here ended e → m ≡ counted-of k e → Scans (after-step d (λ t. spent)) n m l b l' b'
     unfolding _>>=_ fetched-seen news-texts
-    token-ends {e = e} v q stored counted =
-        let w = rw q at v in
+    token-ends {e = e} v q stored told =
+        let w = rw (q, behind) at v in
+        let counted = rw behind at told in
         let x = heard-ends (n .used) _ (w .fetches .same) in
         let a = w .fetches .after in
         let counts = few-counted {to = s .place .at + 1} e (h .few) few (a .0) (omega (arith, a .1)) (omega arith) in
@@ -138,12 +147,13 @@ module _ {limits : Limits} {text entries frames : List ℕ} {s : State} {n : Cou
         }
 
     pub token-goes : {r : Fetched} {l l' : List ℕ} {e : news.Event} {t : State} {m : Counts}
-        → Steps limits text entries frames es fs b b' (n .count + ended) (n .used) s r → r ≡ fetched.Goes t e
-        → length es ≡ length entries → length fs ≡ length frames → l' ≡ put-news l (n .count) here ended e → m ≡ counted-of (ending n ended) e
+        → Steps limits text entries frames es fs b b' (k .count) (k .used) s r → r ≡ fetched.Goes t e
+        → length es ≡ length entries → length fs ≡ length frames → l' ≡ put-news l (n .count) here ended e → m ≡ counted-of k e
         → Goes limits text es fs d n m l b l' b' t
     unfolding _>>=_ fetched-seen news-texts
-    token-goes {e = e} v q entries-kept frames-kept stored counted =
-        let w = rw q at v in
+    token-goes {e = e} v q entries-kept frames-kept stored told =
+        let w = rw (q, behind) at v in
+        let counted = rw behind at told in
         let x = heard-goes (n .used) _ (w .fetches .same) in
         let a = w .fetches .after in
         record {

@@ -7,6 +7,7 @@ use lib.Seq.{sets}
 use Rattle.yaml_text.specs.declared.Mark.{Mark}
 use Rattle.yaml_text.specs.Refusal.{Read, _>>=_, got}
 use Rattle.yaml_scan.specs.declared.Limits.{Limits}
+use Rattle.yaml_scan.specs.Choice.{fetch-next}
 use Rattle.yaml_scan.specs.State.{Event, News, block-ends, goes-on, preceded, puts}
 use Rattle.yaml_scan.specs.Scan.{after-step, scanned, spent, stopped}
 use Rattle.yaml_scan.specs.Scan as definition
@@ -24,6 +25,10 @@ use Rattle.scanner.specs.declared.run.Turn.the-variants.{On, Over}
 -- nothing was said
 abbrev pub none : Counts
 none = record { count = 0; «put_in» = 0; used = 0 }
+
+-- the counts behind so many ends of blocks
+abbrev pub ending : Counts → ℕ → Counts
+ending n ended = record { count = n .count + ended; «put_in» = n .«put_in»; used = n .used }
 
 -- what is said is stored behind the counts n: from the words l and bytes b to l' and b', with the counts m
 pub record Tells (n m : Counts) (l b l' b' : List ℕ) (es : List Event) : Type 0 where
@@ -72,3 +77,8 @@ behind-ends ended m d = d >>= λ w. got (preceded (block-ends ended m) w)
 abbrev pub Turns : Limits → List ℕ → List ℕ → List ℕ → Read News → Counts → List ℕ → List ℕ → List ℕ → List ℕ → Turn → Type 0
 Turns limits text es fs d n l b l' b' (On t m) = Goes limits text es fs d n m l b l' b' t
 Turns limits text es fs d n l b l' b' (Over o) = Comes (after-step d (λ t. spent)) n l b l' b' o
+
+-- one token from s, behind so many ends of blocks there
+abbrev pub Takes : Limits → List ℕ → List ℕ → List ℕ → List ℕ → List ℕ → State → ℕ → Counts → List ℕ → List ℕ → List ℕ → List ℕ → Turn → Type 0
+Takes limits text entries frames es fs s ended n l b l' b' r =
+    Turns limits text es fs (behind-ends ended (s .place .mark) (fetch-next limits (state-of text entries frames (n .count + ended) s))) n l b l' b' r

@@ -1,24 +1,35 @@
 // The run: step after step from StreamStart to the end of the text, stored as they come.
-ghost use Prim.Native.Nat.{_+_, _≤_, suc};
+ghost use Prim.Native.Nat.{_+_, _<_, _^_, _≤_, suc};
+ghost use mathlib.Core.Bool.{false, true};
+ghost use mathlib.Core.Path.{_≡_};
 ghost use lib.ListN.{length};
 ghost use Rattle.yaml_text.specs.PlaceLaws.{left};
 ghost use Rattle.yaml_text.specs.Utf8.{chars};
-ghost use Rattle.yaml_scan.specs.Choice.{fetch-next};
+ghost use Rattle.yaml_scan.specs.Choice.{choice};
 ghost use Rattle.yaml_scan.specs.Scan.{run, scan, step};
 ghost use Rattle.chars.specs.View.{view};
+ghost use Rattle.choices.specs.Choice.{Says};
 ghost use Rattle.states.specs.State.{state-of};
+ghost use Rattle.steps.specs.Step.{is-brief};
 ghost use Rattle.scanner.specs.Promise.{Modest};
-ghost use Rattle.scanner.specs.Run.{Comes, Fine, Turns, behind-ends, none};
+ghost use Rattle.scanner.specs.Run.{Comes, Fine, Takes, Turns, ending, none};
 use choices::advance::Advanced;
 use choices::advance::to_next_token;
+use choices::choice::choice;
+use sink::put_brief;
 use sink::put_news;
 use sink::put_record;
+use states::Brief;
 use states::Counts;
 use states::Fetched;
 use states::State;
-use steps::fetch_next;
+use states::brief_event;
+use steps::fetch_brief;
+use steps::fetch_other;
+use steps::is_brief;
 use yaml_lexeme::Kind;
 use yaml_lexeme::Token;
+use yaml_scan::Choice;
 use yaml_scan::Limits;
 use yaml_text::Refusal;
 
@@ -31,6 +42,88 @@ pub enum Outcome {
 enum Turn {
     On(State, Counts),
     Over(Outcome),
+}
+
+// The counts behind so many ends of blocks.
+fn ending(n: Counts, ended: u32) -> Counts
+    requires { ⌜ n .count + ended < 2 ^ 32 ⌝ }
+    ensures { λ r. ⌜ r ≡ ending n ended ⌝ }
+{
+    Counts {
+        count: n.count + ended,
+        put_in: n.put_in,
+        used: n.used,
+    }
+}
+
+// One token that is brief, before which so many blocks ended.
+fn brief(
+    limits: Limits,
+    text: &[u8],
+    c: Choice,
+    s: State,
+    ended: u32,
+    n: Counts,
+    entries: &mut [u32],
+    frames: &mut [u32],
+    words: &mut [u32],
+    bytes: &mut [u8],
+) -> Turn
+    requires { ⌜ Fine limits (now text) (now entries) (now frames) s n × (ended ≤ 255) × Says (now text) s (λ t. choice t) c × (is-brief c ≡ true) ⌝ }
+    ensures { λ r. ⌜ Takes limits (now (text .entry)) (now (entries .entry)) (now (frames .entry)) (now (entries .exit)) (now (frames .exit)) s ended n (now (words .entry)) (now (bytes .entry)) (now (words .exit)) (now (bytes .exit)) r ⌝ }
+{
+    let k = ending(n, ended);
+    let r = fetch_brief(limits, text, c, s, k, entries, frames, bytes);
+    match r {
+        Brief::Refused(f) => Turn::Over(Outcome::Stopped(f)),
+        Brief::Goes(t, pair, token) => {
+            put_brief(words, n.count, s.place.mark, ended, pair, token);
+            Turn::On(t, k.counting(brief_event(pair, token)))
+        }
+    }
+}
+
+// One token that is not.
+fn lexeme(
+    limits: Limits,
+    text: &[u8],
+    c: Choice,
+    s: State,
+    ended: u32,
+    n: Counts,
+    entries: &mut [u32],
+    frames: &mut [u32],
+    words: &mut [u32],
+    bytes: &mut [u8],
+) -> Turn
+    requires { ⌜ Fine limits (now text) (now entries) (now frames) s n × (ended ≤ 255) × Says (now text) s (λ t. choice t) c × (is-brief c ≡ false) ⌝ }
+    ensures { λ r. ⌜ Takes limits (now (text .entry)) (now (entries .entry)) (now (frames .entry)) (now (entries .exit)) (now (frames .exit)) s ended n (now (words .entry)) (now (bytes .entry)) (now (words .exit)) (now (bytes .exit)) r ⌝ }
+{
+    let k = ending(n, ended);
+    let r = fetch_other(limits, text, c, s, k, entries, frames, bytes);
+    let e = match r {
+        Fetched::Refused(f) => {
+            return Turn::Over(Outcome::Stopped(f));
+        }
+        Fetched::Ends(e) => e,
+        Fetched::Goes(_, e) => e,
+    };
+    put_news(words, n.count, s.place.mark, ended, e);
+    let m = k.counting(e);
+    match r {
+        Fetched::Goes(t, _) => Turn::On(t, m),
+        _ => Turn::Over(Outcome::Scanned(m)),
+    }
+}
+
+// The same turn, put together anew: else the call writes it to the caller's own, and brief tokens go through memory too.
+fn apart(r: Turn) -> Turn
+    ensures { λ e. ⌜ e ≡ r ⌝ }
+{
+    match r {
+        Turn::On(t, m) => Turn::On(t, m),
+        Turn::Over(o) => Turn::Over(o),
+    }
 }
 
 // One token from the state s, before which so many blocks ended.
@@ -46,30 +139,13 @@ fn token(
     bytes: &mut [u8],
 ) -> Turn
     requires { ⌜ Fine limits (now text) (now entries) (now frames) s n × (ended ≤ 255) ⌝ }
-    ensures { λ r. ⌜ Turns limits (now (text .entry)) (now (entries .exit)) (now (frames .exit)) (behind-ends ended (s .place .mark) (fetch-next limits (state-of (now (text .entry)) (now (entries .entry)) (now (frames .entry)) (n .count + ended) s))) n (now (words .entry)) (now (bytes .entry)) (now (words .exit)) (now (bytes .exit)) r ⌝ }
+    ensures { λ r. ⌜ Takes limits (now (text .entry)) (now (entries .entry)) (now (frames .entry)) (now (entries .exit)) (now (frames .exit)) s ended n (now (words .entry)) (now (bytes .entry)) (now (words .exit)) (now (bytes .exit)) r ⌝ }
 {
-    let first = n.count;
-    let here = s.place.mark;
-    let k = Counts {
-        count: first + ended,
-        put_in: n.put_in,
-        used: n.used,
-    };
-    let r = fetch_next(limits, text, s, k, entries, frames, bytes);
-    let e = match r {
-        Fetched::Refused(f) => {
-            return Turn::Over(Outcome::Stopped(f));
-        }
-        Fetched::Ends(e) => e,
-        Fetched::Goes(_, e) => e,
-    };
-    // Called from one place, so that it is inlined.
-    put_news(words, first, here, ended, e);
-    let m = k.counting(e);
-    match r {
-        Fetched::Goes(t, _) => Turn::On(t, m),
-        _ => Turn::Over(Outcome::Scanned(m)),
+    let c = choice(text, s);
+    if is_brief(c) {
+        return brief(limits, text, c, s, ended, n, entries, frames, words, bytes);
     }
+    apart(lexeme(limits, text, c, s, ended, n, entries, frames, words, bytes))
 }
 
 // The step from the state s.

@@ -1,5 +1,6 @@
 -- What the stores of a function come to.
 use Prim.Native.Nat.{_+_, _-_, _<_, _≤_, suc, ℕ}
+use mathlib.Core.Bool.{Bool}
 use mathlib.Core.List.{List, [], _++_, _∷_}
 use mathlib.Core.Path.{_∙_, _≡_, ap, refl, sym}
 use native.Mathlib.Numerals.{add-one}
@@ -14,6 +15,7 @@ use Rattle.news.specs.declared.Event.{Event}
 use Rattle.news.specs.declared.Note.{Note}
 use Rattle.news.specs.declared.Opening.{Opening}
 use Rattle.news.specs.declared.Opening.the-variants as opening
+use Rattle.states.specs.Brief.{brief-event}
 use Rattle.states.specs.Say.{empty-of}
 use Rattle.sink.specs.Tokens.{end-tokens, event-tokens, opening-tokens}
 use Rattle.sink.specs.Kinds.{five, kind-place, number-place}
@@ -80,3 +82,12 @@ event-put e l a b o n k j p q r s t =
 pub news-put : (e : Event) (here : Mark) (ended : ℕ) (l a b o : List ℕ) (n k : ℕ) → k ≡ n + ended → a ≡ put-list l n (end-tokens ended here)
     → b ≡ note-at a (e .note) → o ≡ put-list b k (event-tokens e) → o ≡ put-news l n here ended e
 news-put e here ended l a b o n k p q i r = r ∙ rw (i, q, p)
+
+-- a brief event has no note and ends no block
+pub brief-put : (pair : Bool) (t : Token) (here : Mark) (ended : ℕ) (l a b o : List ℕ) (n k j : ℕ) → k ≡ n + ended → a ≡ put-list l n (end-tokens ended here)
+    → j ≡ k + length (opening-tokens (brief-event pair t .opening) (t .start)) → b ≡ put-list a k (opening-tokens (brief-event pair t .opening) (t .start))
+    → o ≡ put-record b j (record-of t) → o ≡ put-news l n here ended (brief-event pair t)
+unfolding put-list note-at
+brief-put pair t here ended l a b o n k j p q r s u =
+    let z : k ≡ k + 0 = omega arith in
+    news-put (brief-event pair t) here ended l a a o n k p q refl (event-put (brief-event pair t) a a b o k k j z refl r s u)

@@ -17,6 +17,9 @@ ghost use mathlib.Core.Path.{_≡_};
 ghost use Prim.Native.Nat.{_*_, _+_, _<_, _^_, _≤_};
 ghost use lib.ListN.{length};
 ghost use Rattle.yaml_lexeme.specs.Held.{record-of};
+ghost use Rattle.news.specs.declared.Opening.the-variants as opening;
+ghost use Rattle.states.specs.Brief.{brief-event};
+ghost use Rattle.states.specs.Laid.{opening-if};
 ghost use Rattle.states.specs.Say.{empty-of};
 ghost use Rattle.sink.specs.Put.{note-at, put-list, put-news, put-note, put-record, width};
 ghost use Rattle.sink.specs.Tokens.{end-tokens, event-tokens, opening-tokens};
@@ -96,6 +99,17 @@ fn put_opening(words: &mut [u32], n: usize, o: Opening, m: Mark) -> usize
     }
 }
 
+// Stores the end of a pair, if there is one, in slot n; the slot behind it.
+fn put_pair_end(words: &mut [u32], n: usize, pair: bool, m: Mark) -> usize
+    requires { ⌜ n < 2 ^ 41 ⌝ }
+    ensures { λ r. ⌜ (r ≡ n + length (opening-tokens (opening-if pair opening.FlowMappingEnd) m)) × (now (words .exit) ≡ put-list (now (words .entry)) n (opening-tokens (opening-if pair opening.FlowMappingEnd) m)) ⌝ }
+{
+    if pair {
+        return put_empty_token(words, n, Kind::FlowMappingEnd, m);
+    }
+    n
+}
+
 // Stores what a lexeme says from slot n on.
 fn put_event(words: &mut [u32], n: usize, e: Event)
     requires { ⌜ n < 2 ^ 40 ⌝ }
@@ -117,6 +131,15 @@ pub fn put_news(words: &mut [u32], n: u32, here: Mark, ended: u32, e: Event)
     let o = e.note;
     note(words, o);
     put_event(words, k, e)
+}
+
+// The same of one token, behind the end of an implicit pair or not.
+pub fn put_brief(words: &mut [u32], n: u32, here: Mark, ended: u32, pair: bool, t: Token)
+    ensures { λ _. ⌜ now (words .exit) ≡ put-news (now (words .entry)) n here ended (brief-event pair t) ⌝ }
+{
+    let k = put_ends(words, n as usize, ended, here);
+    let j = put_pair_end(words, k, pair, t.start);
+    put_record(words, j, t)
 }
 
 // One pass from the back sets n noted records in their final places among t.

@@ -7,3 +7,4 @@ pub mod Weighed
 pub mod Laid
 pub mod Fetch
 pub mod Goes
+pub mod Brief

@@ -5,6 +5,9 @@ ghost use lib.ListN.{length};
 ghost use Rattle.yaml_scan.specs.Keys.{stale};
 ghost use Rattle.reading.specs.Reading.{text-size};
 ghost use Rattle.states.specs.State.{behind-of, required-of, s-adjacent-here, s-begin, s-moved, s-with-depth, s-with-indents};
+ghost use Rattle.states.specs.Brief.{brief-event};
+ghost use Rattle.states.specs.Laid.{opening-if};
+ghost use Rattle.news.specs.declared.Opening.the-variants as opening;
 ghost use Rattle.states.specs.Key.{Lapses, Removes, Saves};
 ghost use Rattle.states.specs.Say.{Countable, closing-of, counted-of, note-size, opening-size};
 ghost use Rattle.states.specs.declared.Fetched.the-variants as fetched;
@@ -31,11 +34,11 @@ pub struct State {
     pub leads: bool,
     // A simple key is allowed.
     pub allowed: bool,
+    // Index + 1 directly after a quoted scalar's or closing bracket's span; 0: none.
+    pub adjacent: u32,
     pub indents: Indents,
     // The flow level. Its candidate and its data are in the frame of that number.
     pub depth: usize,
-    // Index + 1 directly after a quoted scalar's or closing bracket's span; 0: none.
-    pub adjacent: u32,
 }
 
 // How many tokens were given so far, without those put in; how many were put in; how many bytes of text.
@@ -49,6 +52,12 @@ pub struct Counts {
 pub enum Fetched {
     Goes(State, Event),
     Ends(Event),
+    Refused(Refusal),
+}
+
+// What says one token, behind the end of an implicit pair or not, and the state behind it; or a refusal.
+pub enum Brief {
+    Goes(State, bool, Token),
     Refused(Refusal),
 }
 
@@ -247,6 +256,27 @@ impl State {
                 true
             }
         }
+    }
+}
+
+fn pair_end(pair: bool) -> Opening
+    ensures { λ r. ⌜ r ≡ opening-if pair opening.FlowMappingEnd ⌝ }
+{
+    if pair {
+        return Opening::FlowMappingEnd;
+    }
+    Opening::Nothing
+}
+
+// What is said of one token, behind the end of an implicit pair or not.
+pub fn brief_event(pair: bool, t: Token) -> Event
+    ensures { λ r. ⌜ r ≡ brief-event pair t ⌝ }
+{
+    Event {
+        note: Note::Nothing,
+        closed: 0,
+        opening: pair_end(pair),
+        token: t,
     }
 }
 

@@ -1,18 +1,16 @@
 -- The second half of a step, held against the definition.
 use Prim.Native.Nat.{_<_, _^_, ℕ}
-use mathlib.Core.Bool.{false}
+use mathlib.Core.Bool.{Bool, false, true}
 use mathlib.Core.List.{List}
 use mathlib.Core.Path.{_≡_}
 use lib.ListN.{getD}
 use Rattle.yaml_text.specs.declared.Mark.{Mark}
-use Rattle.yaml_text.specs.Class.{isZ, peek}
-use Rattle.yaml_text.specs.Utf8.{chars}
 use Rattle.yaml_scan.specs.declared.Choice.{Choice}
 use Rattle.yaml_scan.specs.declared.Choice.the-variants.{AtAnchor, AtBlock, AtByteOrderMark, AtColon, AtComma, AtDash, AtDirective, AtEnd, AtMarker, AtPlain, AtQuestion, AtQuoted, AtTag, BelowIndent, Closes, Opens, Stray}
 use Rattle.yaml_scan.specs.declared.Limits.{Limits}
 use Rattle.yaml_scan.specs.Choice.{choice, fetch, fetch-next}
 use Rattle.chars.specs.View.{Stands}
-use Rattle.reading.specs.Reading.{Given, Indicated}
+use Rattle.reading.specs.Reading.{Indicated}
 use Rattle.states.specs.declared.Fetched.{Fetched}
 use Rattle.states.specs.declared.State.{State}
 use Rattle.states.specs.Fetch.{Fetches, FetchesText, Ready, Written}
@@ -32,14 +30,34 @@ pub record Chosen (limits : Limits) (text entries frames : List ℕ) (used : ℕ
   pub room : used < 2 ^ 31
   pub says : Says text s (λ t. choice t) c
 
--- what a lexeme that holds text asks of the rest of the text, which begins at the mark m; no other lexeme is one
+-- plain scalars, brackets and ','
+abbrev pub is-brief : Choice → Bool
+is-brief AtPlain = true
+is-brief (Opens sequence) = true
+is-brief (Closes sequence) = true
+is-brief AtComma = true
+is-brief AtDirective = false
+is-brief AtTag = false
+is-brief (AtAnchor alias) = false
+is-brief (AtBlock literal) = false
+is-brief (AtQuoted single) = false
+is-brief AtEnd = false
+is-brief AtByteOrderMark = false
+is-brief BelowIndent = false
+is-brief Stray = false
+is-brief (AtMarker starts) = false
+is-brief AtDash = false
+is-brief AtQuestion = false
+is-brief AtColon = false
+
+-- what a lexeme that holds text, but no plain scalar, asks of the rest of the text, which begins at the mark m; no other lexeme is one
 abbrev pub Content : List ℕ → Mark → ℕ → Choice → Type 0
 Content rest m used AtDirective = Indicated rest m used
 Content rest m used AtTag = Indicated rest m used × (getD rest 0 0 ≡ 33)
-Content rest m used AtPlain = Given rest m used × (isZ (peek (chars rest) 0) ≡ false)
 Content rest m used (AtAnchor alias) = Indicated rest m used
 Content rest m used (AtBlock literal) = Indicated rest m used
 Content rest m used (AtQuoted single) = Indicated rest m used
+Content rest m used AtPlain = ⊥
 Content rest m used AtEnd = ⊥
 Content rest m used AtByteOrderMark = ⊥
 Content rest m used BelowIndent = ⊥

@@ -1,14 +1,11 @@
 // K3: one token, by which lexeme stands here.
 ghost use mathlib.Core.Path.{_≡_};
-ghost use Prim.Native.Nat.{_<_, _^_};
-ghost use Rattle.yaml_scan.specs.declared.Choice.the-variants.{AtComma};
-ghost use Rattle.chars.specs.View.{Stands};
-ghost use Rattle.states.specs.Fetch.{Ready};
-ghost use Rattle.steps.specs.Step.{Chosen, FetchesContent, Lexical, Steps};
+ghost use mathlib.Core.Bool.{false, true};
+ghost use Rattle.states.specs.Brief.{brief-fetched};
+ghost use Rattle.steps.specs.Step.{Chosen, FetchesContent, Lexical, Steps, is-brief};
 use brackets::fetch_flow_collection_end;
 use brackets::fetch_flow_collection_start;
 use brackets::fetch_flow_entry;
-use choices::choice::choice;
 use lexers::fetch_anchor;
 use lexers::fetch_block_scalar;
 use lexers::fetch_directive;
@@ -18,6 +15,7 @@ use lexers::fetch_tag;
 use markers::fetch_byte_order_mark;
 use markers::fetch_document_indicator;
 use markers::fetch_stream_end;
+use states::Brief;
 use states::Counts;
 use states::Fetched;
 use states::State;
@@ -28,7 +26,7 @@ use values::fetch_value;
 use yaml_scan::Choice;
 use yaml_scan::Limits;
 
-// The lexemes that hold text, given the text from there on.
+// The lexemes that hold text but plain scalars, given the text from there on.
 fn fetch_content(
     text: &[u8],
     c: Choice,
@@ -43,16 +41,15 @@ fn fetch_content(
 {
     match c {
         Choice::AtDirective => fetch_directive(text, s, n, entries, frames, bytes),
-        Choice::AtTag => fetch_tag(text, s, n, entries, frames, bytes),
         Choice::AtAnchor(alias) => fetch_anchor(text, alias, s, n, entries, frames, bytes),
         Choice::AtBlock(literal) => fetch_block_scalar(text, literal, s, n, entries, frames, bytes),
         Choice::AtQuoted(single) => fetch_flow_scalar(text, single, s, n, entries, frames, bytes),
-        _ => fetch_plain_scalar(text, s, n, entries, frames, bytes),
+        _ => fetch_tag(text, s, n, entries, frames, bytes),
     }
 }
 
-// All lexemes but ',', and the refusals 42 and 43.
-fn fetch_other(
+// All other lexemes, and the refusals 42 and 43.
+pub fn fetch_other(
     limits: Limits,
     text: &[u8],
     c: Choice,
@@ -62,7 +59,7 @@ fn fetch_other(
     frames: &mut [u32],
     bytes: &mut [u8],
 ) -> Fetched
-    requires { ⌜ Chosen limits (now text) (now entries) (now frames) (n .used) s c × (c ≡ AtComma → ⊥) ⌝ }
+    requires { ⌜ Chosen limits (now text) (now entries) (now frames) (n .used) s c × (is-brief c ≡ false) ⌝ }
     ensures { λ r. ⌜ Steps limits (now (text .entry)) (now (entries .entry)) (now (frames .entry)) (now (entries .exit)) (now (frames .exit)) (now (bytes .entry)) (now (bytes .exit)) (n .count) (n .used) s r ⌝ }
 {
     let at = s.place.at;
@@ -74,10 +71,6 @@ fn fetch_other(
         Choice::AtMarker(starts) => {
             fetch_document_indicator(&text[at..], starts, s, entries, frames)
         }
-        Choice::Opens(sequence) => {
-            fetch_flow_collection_start(limits, &text[at..], sequence, s, n.count, entries, frames)
-        }
-        Choice::Closes(sequence) => fetch_flow_collection_end(&text[at..], sequence, s, frames),
         Choice::AtDash => fetch_block_entry(limits, s, entries, frames),
         Choice::AtQuestion => fetch_key(limits, s, entries, frames),
         Choice::AtColon => fetch_value(limits, s, entries, frames),
@@ -85,8 +78,21 @@ fn fetch_other(
     }
 }
 
-// The lexeme that stands here. The commonest have their own way: what is called twice is not inlined.
-fn fetch(
+// Plain scalars, brackets and ',' are brief: they say one token, behind the end of a pair or not.
+pub fn is_brief(c: Choice) -> bool
+    ensures { λ r. ⌜ r ≡ is-brief c ⌝ }
+{
+    match c {
+        Choice::AtPlain => true,
+        Choice::Opens(_) => true,
+        Choice::Closes(_) => true,
+        Choice::AtComma => true,
+        _ => false,
+    }
+}
+
+// A lexeme that is brief.
+pub fn fetch_brief(
     limits: Limits,
     text: &[u8],
     c: Choice,
@@ -95,32 +101,17 @@ fn fetch(
     entries: &mut [u32],
     frames: &mut [u32],
     bytes: &mut [u8],
-) -> Fetched
-    requires { ⌜ Chosen limits (now text) (now entries) (now frames) (n .used) s c ⌝ }
-    ensures { λ r. ⌜ Steps limits (now (text .entry)) (now (entries .entry)) (now (frames .entry)) (now (entries .exit)) (now (frames .exit)) (now (bytes .entry)) (now (bytes .exit)) (n .count) (n .used) s r ⌝ }
+) -> Brief
+    requires { ⌜ Chosen limits (now text) (now entries) (now frames) (n .used) s c × (is-brief c ≡ true) ⌝ }
+    ensures { λ r. ⌜ Steps limits (now (text .entry)) (now (entries .entry)) (now (frames .entry)) (now (entries .exit)) (now (frames .exit)) (now (bytes .entry)) (now (bytes .exit)) (n .count) (n .used) s (brief-fetched r) ⌝ }
 {
     let at = s.place.at;
     match c {
         Choice::AtPlain => fetch_plain_scalar(&text[at..], s, n, entries, frames, bytes),
-        Choice::AtComma => fetch_flow_entry(&text[at..], s, frames),
-        Choice::AtEnd => fetch_other(limits, text, c, s, n, entries, frames, bytes),
-        _ => fetch_other(limits, text, c, s, n, entries, frames, bytes),
+        Choice::Opens(sequence) => {
+            fetch_flow_collection_start(limits, &text[at..], sequence, s, n.count, entries, frames)
+        }
+        Choice::Closes(sequence) => fetch_flow_collection_end(&text[at..], sequence, s, frames),
+        _ => fetch_flow_entry(&text[at..], s, frames),
     }
-}
-
-// One token, from a state before it.
-pub fn fetch_next(
-    limits: Limits,
-    text: &[u8],
-    s: State,
-    n: Counts,
-    entries: &mut [u32],
-    frames: &mut [u32],
-    bytes: &mut [u8],
-) -> Fetched
-    requires { ⌜ Ready limits (now entries) (now frames) s × Stands (now text) (s .place) × (n .used < 2 ^ 31) ⌝ }
-    ensures { λ r. ⌜ Steps limits (now (text .entry)) (now (entries .entry)) (now (frames .entry)) (now (entries .exit)) (now (frames .exit)) (now (bytes .entry)) (now (bytes .exit)) (n .count) (n .used) s r ⌝ }
-{
-    let c = choice(text, s);
-    fetch(limits, text, c, s, n, entries, frames, bytes)
 }

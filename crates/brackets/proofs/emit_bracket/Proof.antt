@@ -6,17 +6,17 @@ use Rattle.brackets.proofs.emit_bracket.Tie as tie
 
 -- the places, and what was reached behind the bracket's own byte
 
-abbrev start : tie.After-blanks-and-comment → tie.Start
+abbrev start : tie.After-rest-of-line → tie.Start
 start c = c .before .before .before .before .before
 
-past : (c : tie.After-blanks-and-comment) → Past (now (start c .args .text)) (start c .args .s .place .mark) (c .blanks-and-comment .result)
-past c = rw (c .before .skip-blank .ensures) at (c .blanks-and-comment .ensures)
+past : (c : tie.After-rest-of-line) → Past (now (start c .args .text)) (start c .args .s .place .mark) (c .rest-of-line .result)
+past c = rw (c .before .skip-blank .ensures) at (c .rest-of-line .ensures)
 
 skip-blank-requires : tie.Need-skip-blank-requires
 skip-blank-requires c κs = search needs
 
-blanks-and-comment-requires : tie.Need-blanks-and-comment-requires
-blanks-and-comment-requires c κs = rw (c .skip-blank .ensures) (stands-second (c .before .before .before .before .pre))
+rest-of-line-requires : tie.Need-rest-of-line-requires
+rest-of-line-requires c κs = rw (c .skip-blank .ensures) (stands-second (c .before .before .before .before .pre))
 
 enum-known-r : tie.Need-enum-known-r
 enum-known-r c = search needs
@@ -34,20 +34,20 @@ returns : tie.Need-returns
 returns c =
     let r = c .before .before .before in
     let a = start r .args in
-    emits-refused (a .s) (start r .pre) (past r) (a .opening) (a .kind) (a .closes) (c .before .r .given .1)
+    emits-refused (a .s) (start r .pre) (past r) (a .pair) (a .kind) (a .closes) (c .before .r .given .1)
 
 returns-2 : tie.Need-returns-2
 returns-2 c =
     let r = c .before .before .before .before .before .before in
     let a = start r .args in
-    emits-to (a .s) (start r .pre) (past r) (a .opening) (a .kind) (a .closes) (c .before .before .before .before .r2 .given .1) (c .before .behind .ensures) (c .past-bracket .ensures)
+    emits-to (a .s) (start r .pre) (past r) (a .pair) (a .kind) (a .closes) (c .before .before .before .before .r2 .given .1) (c .before .behind .ensures) (c .past-bracket .ensures)
 
 pub emit-bracket-spec : {M : Type 1} → statement M
 emit-bracket-spec =
     tie.close
     (tie.spec
     skip-blank-requires
-    blanks-and-comment-requires
+    rest-of-line-requires
     enum-known-r
     enum-known-r-2
     behind-requires

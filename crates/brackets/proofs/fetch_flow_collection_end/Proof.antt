@@ -50,9 +50,6 @@ returns-2 c = λ limits entries count ready text used q h.
 remove-key-requires : tie.Need-remove-key-requires
 remove-key-requires c κs = search needs
 
-pair-end-requires : tie.Need-pair-end-requires
-pair-end-requires c κs = search needs
-
 closing-kind-requires : tie.Need-closing-kind-requires
 closing-kind-requires c κs = search needs
 
@@ -63,22 +60,21 @@ with-depth-requires : tie.Need-with-depth-requires
 with-depth-requires c κs = search needs
 
 emit-bracket-requires : tie.Need-emit-bracket-requires
-emit-bracket-requires c κs = rw (c .with-depth .ensures) (start (top (kind (c .before .before .before .before .before .before .before))) .pre .0)
+emit-bracket-requires c κs = rw (c .with-depth .ensures) (start (top (kind (c .before .before .before .before .before .before))) .pre .0)
 
 same-length-2 : tie.Need-same-length-2
 same-length-2 c = search needs
 
 returns-3 : tie.Need-returns-3
 returns-3 c = λ limits entries count ready text used q h.
-    let k = c .before .before .before .before .before .before .before .before in
+    let k = c .before .before .before .before .before .before .before in
     let m = kind k in
     let l = top m in
     let a = start l .args in
-    emitted _
+    emitted
     (end-goes (a .sequence) text entries (now (a .frames)) count (a .s)
-    (deep l .if1 .left) (l .level .ensures) (m .if2 .left) (k .remove-key .ensures) (c .before .before .before .before .before .if3 .taken))
+    (deep l .if1 .left) (l .level .ensures) (m .if2 .left) (k .remove-key .ensures) (c .before .before .before .before .if3 .taken))
     (c .emit-bracket .ensures)
-    (c .before .before .before .before .pair-end .ensures)
     (c .before .before .before .closing-kind .ensures) (closes (a .sequence))
     (c .before .with-depth .ensures) refl q h (ready .low) (omega (arith, ready .deep)) (k .remove-key .ensures .low (ready .keys))
 
@@ -109,7 +105,6 @@ fetch-flow-collection-end-spec =
     same-length
     returns-2
     remove-key-requires
-    pair-end-requires
     closing-kind-requires
     sub-with-depth
     with-depth-requires

@@ -1,4 +1,3 @@
-use mathlib.Core.Bool.{false}
 use mathlib.Core.Path.{_∙_, refl}
 use native.Mathlib.Omega.{arith}
 use borrow.Author.Needs.{needs}
@@ -109,9 +108,9 @@ returns-3 c = λ text used q h.
     let w = stack i in
     let k = save w in
     let sequence = start k .args .sequence in
-    emitted false
+    emitted
     (start-goes sequence text (k .save-key .ensures) (w .stack-bracket .ensures) (i .r .given .1) (d .if1 .left) (o .open-level .ensures))
-    (c .emit-bracket .ensures) refl
+    (c .emit-bracket .ensures)
     (c .before .before .before .before .opening-kind .ensures) (opens sequence)
     (c .before .with-depth .ensures ∙ rw (c .before .before .before .with-indents .ensures)) refl q h
     (stacked-low (w .stack-bracket .ensures) (i .r .given .1))

@@ -27,9 +27,6 @@ new-level-requires c κs = search needs
 set-level-requires : tie.Need-set-level-requires
 set-level-requires c κs = search needs
 
-pair-end-requires : tie.Need-pair-end-requires
-pair-end-requires c κs = search needs
-
 emit-bracket-requires : tie.Need-emit-bracket-requires
 emit-bracket-requires c κs = search needs
 
@@ -38,12 +35,12 @@ same-length c = search needs
 
 returns : tie.Need-returns
 returns c = λ limits entries count ready text used q h.
-    let l = c .before .before .before .before .before .before .before in
+    let l = c .before .before .before .before .before .before in
     let k = removed l in
-    let set = c .before .before .before .before in
-    emitted _
+    let set = c .before .before .before in
+    emitted
     (entry-goes text entries count (k .remove-key .ensures) (l .before .before .if1 .taken) (start k .pre .2) (l .level .ensures) (set .set-level .ensures) (set .before .new-level .ensures))
-    (c .emit-bracket .ensures) (c .before .pair-end .ensures) refl entry refl refl q h (ready .low) (ready .deep)
+    (c .emit-bracket .ensures) refl entry refl refl q h (ready .low) (ready .deep)
     (low-level (set .set-level .ensures) (k .remove-key .ensures .low (ready .keys)))
 
 refuse-requires : tie.Need-refuse-requires
@@ -65,7 +62,6 @@ fetch-flow-entry-spec =
     level-requires
     new-level-requires
     set-level-requires
-    pair-end-requires
     emit-bracket-requires
     same-length
     returns

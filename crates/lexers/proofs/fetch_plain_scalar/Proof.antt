@@ -11,7 +11,7 @@ use Rattle.lexers.proofs.fetch_plain_scalar.Tie as tie
 abbrev start : tie.After-scan-plain-scalar → tie.Start
 start c = c .before .before .before .before .before .before .before .before
 
-abbrev read : tie.After-fetched → tie.After-scan-plain-scalar
+abbrev read : tie.After-brief → tie.After-scan-plain-scalar
 read c = c .before .before .before .before .before .before .before
 
 unused-from-requires : tie.Need-unused-from-requires
@@ -32,8 +32,8 @@ scan-plain-scalar-requires c κs = search needs
 save-key-requires : tie.Need-save-key-requires
 save-key-requires c κs = search needs
 
-fetched-requires : tie.Need-fetched-requires
-fetched-requires c κs = let k = c .before .before .before .before .before .before in reading-fits (start k .pre .0) (k .scan-plain-scalar .result) (k .scan-plain-scalar .ensures .ahead)
+brief-requires : tie.Need-brief-requires
+brief-requires c κs = let k = c .before .before .before .before .before .before in reading-fits (start k .pre .0) (k .scan-plain-scalar .result) (k .scan-plain-scalar .ensures .ahead)
 
 same-length : tie.Need-same-length
 same-length c = search needs
@@ -46,7 +46,7 @@ returns c =
     let k = read c in
     let a = start k .args in
     let w = c .before .before .before .save-key .ensures in
-    rw (c .fetched .ensures)
+    rw (c .brief .ensures)
     (saved (now (a .bytes)) (λ t. fetch-plain-scalar t) (a .s .indents) false false (λ m. a .s .adjacent) (k .before .before .before .unused-from .ensures) w (λ _ _ l. l) (k .scan-plain-scalar .ensures) (plain-tells (now (a .text)) w))
 
 pub fetch-plain-scalar-spec : {M : Type 1} → statement M
@@ -59,7 +59,7 @@ fetch-plain-scalar-spec =
     part-scan-plain-scalar-end
     scan-plain-scalar-requires
     save-key-requires
-    fetched-requires
+    brief-requires
     same-length
     same-length-2
     returns)

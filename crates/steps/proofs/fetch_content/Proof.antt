@@ -1,26 +1,20 @@
 use borrow.Author.Needs.{needs}
 use mathlib.Core.Path.{_≡_}
-use Rattle.yaml_scan.specs.declared.Choice.the-variants.{AtPlain}
+use Rattle.yaml_scan.specs.declared.Choice.the-variants.{AtTag}
 use Rattle.yaml_scan.specs.Choice.{fetch}
-use Rattle.steps.proofs.Content.{asked, fetched-as, flat, plain-left}
+use Rattle.steps.proofs.Content.{asked, fetched-as, flat, tag-left}
 use Rattle.steps.proofs.fetch_content.Statement.{statement}
 use Rattle.steps.proofs.fetch_content.Tie as tie
 
 -- THE PLACES: what is left for the last arm
-left : (c : tie.At-match-keys6) → c .before .before .before .before .before .args .c ≡ AtPlain
-left c = plain-left (c .before .before .before .before .before .pre) (c .match .keys6)
+left : (c : tie.At-match-keys5) → c .before .before .before .before .before .args .c ≡ AtTag
+left c = tag-left (c .before .before .before .before .before .pre) (c .match .keys5)
 
 enum-told : tie.Need-enum-told
 enum-told c = search needs
 
 fetch-directive-requires : tie.Need-fetch-directive-requires
 fetch-directive-requires c κs = asked (c .before .before .before .before .before .before .before .before .pre) (c .before .before .enum-told .given .1)
-
-enum-told-2 : tie.Need-enum-told-2
-enum-told-2 c = search needs
-
-fetch-tag-requires : tie.Need-fetch-tag-requires
-fetch-tag-requires c κs = flat (asked (c .before .before .before .before .before .before .before .before .pre) (c .before .before .enum-told2 .given .1))
 
 enum-known-c : tie.Need-enum-known-c
 enum-known-c c = search needs
@@ -40,8 +34,8 @@ enum-known-c-3 c = search needs
 fetch-flow-scalar-requires : tie.Need-fetch-flow-scalar-requires
 fetch-flow-scalar-requires c κs = asked (c .before .before .before .before .before .before .before .before .before .pre) (c .before .before .before .c3 .given .1)
 
-fetch-plain-scalar-requires : tie.Need-fetch-plain-scalar-requires
-fetch-plain-scalar-requires c κs = flat (asked (c .before .before .before .before .before .before .before .pre) (left (c .before .before)))
+fetch-tag-requires : tie.Need-fetch-tag-requires
+fetch-tag-requires c κs = flat (asked (c .before .before .before .before .before .before .before .pre) (left (c .before .before)))
 
 same-length : tie.Need-same-length
 same-length c = search needs
@@ -61,7 +55,7 @@ same-length-4 c = search needs
 
 returns-2 : tie.Need-returns-2
 unfolding fetch
-returns-2 c = fetched-as (c .before .before .before .before .before .before .before .enum-told2 .given .1) (c .before .before .before .before .fetch-tag .ensures)
+returns-2 c = fetched-as (c .before .before .before .before .before .before .before .before .c .given .1) (c .before .before .before .before .fetch-anchor .ensures)
 
 same-length-5 : tie.Need-same-length-5
 same-length-5 c = search needs
@@ -71,7 +65,7 @@ same-length-6 c = search needs
 
 returns-3 : tie.Need-returns-3
 unfolding fetch
-returns-3 c = fetched-as (c .before .before .before .before .before .before .before .before .c .given .1) (c .before .before .before .before .fetch-anchor .ensures)
+returns-3 c = fetched-as (c .before .before .before .before .before .before .before .before .c2 .given .1) (c .before .before .before .before .fetch-block-scalar .ensures)
 
 same-length-7 : tie.Need-same-length-7
 same-length-7 c = search needs
@@ -81,7 +75,7 @@ same-length-8 c = search needs
 
 returns-4 : tie.Need-returns-4
 unfolding fetch
-returns-4 c = fetched-as (c .before .before .before .before .before .before .before .before .c2 .given .1) (c .before .before .before .before .fetch-block-scalar .ensures)
+returns-4 c = fetched-as (c .before .before .before .before .before .before .before .before .c3 .given .1) (c .before .before .before .before .fetch-flow-scalar .ensures)
 
 same-length-9 : tie.Need-same-length-9
 same-length-9 c = search needs
@@ -91,17 +85,7 @@ same-length-10 c = search needs
 
 returns-5 : tie.Need-returns-5
 unfolding fetch
-returns-5 c = fetched-as (c .before .before .before .before .before .before .before .before .c3 .given .1) (c .before .before .before .before .fetch-flow-scalar .ensures)
-
-same-length-11 : tie.Need-same-length-11
-same-length-11 c = search needs
-
-same-length-12 : tie.Need-same-length-12
-same-length-12 c = search needs
-
-returns-6 : tie.Need-returns-6
-unfolding fetch
-returns-6 c = fetched-as (left (c .before .before .before .before .before .before .before)) (c .before .before .before .before .fetch-plain-scalar .ensures)
+returns-5 c = fetched-as (left (c .before .before .before .before .before .before .before)) (c .before .before .before .before .fetch-tag .ensures)
 
 pub fetch-content-spec : {M : Type 1} → statement M
 fetch-content-spec =
@@ -109,15 +93,13 @@ fetch-content-spec =
     (tie.spec
     enum-told
     fetch-directive-requires
-    enum-told-2
-    fetch-tag-requires
     enum-known-c
     fetch-anchor-requires
     enum-known-c-2
     fetch-block-scalar-requires
     enum-known-c-3
     fetch-flow-scalar-requires
-    fetch-plain-scalar-requires
+    fetch-tag-requires
     same-length
     same-length-2
     returns
@@ -132,7 +114,4 @@ fetch-content-spec =
     returns-4
     same-length-9
     same-length-10
-    returns-5
-    same-length-11
-    same-length-12
-    returns-6)
+    returns-5)

@@ -6,7 +6,7 @@ use Rattle.yaml_scan.specs.Choice.{fetch}
 use Rattle.chars.specs.Bytes.{bom-char}
 use Rattle.states.specs.Goes.{fetch-refused}
 use Rattle.steps.specs.Step.{Chosen}
-use Rattle.steps.proofs.Arms.{bracket, by-one, by-quiet, by-rest, by-text, known, marker, stood}
+use Rattle.steps.proofs.Arms.{by-one, by-quiet, by-rest, by-text, known, marker, stood}
 use Rattle.steps.proofs.Content.{lexical}
 use Rattle.steps.proofs.fetch_other.Statement.{statement}
 use Rattle.steps.proofs.fetch_other.Tie as tie
@@ -60,40 +60,6 @@ fetch-document-indicator-requires c κs =
     let k = chosen (c .before .before .before .before .before .before) (c .before .before .before .before .c .given .1) in
     (marker k (stood k) (search needs), search needs, search needs, search needs)
 
-enum-known-c-2 : tie.Need-enum-known-c-2
-enum-known-c-2 c = search needs
-
-sub-fetch-flow-collection-start : tie.Need-sub-fetch-flow-collection-start
-sub-fetch-flow-collection-start c = search needs
-
-part-fetch-flow-collection-start-start : tie.Need-part-fetch-flow-collection-start-start
-part-fetch-flow-collection-start-start c = search needs
-
-part-fetch-flow-collection-start-end : tie.Need-part-fetch-flow-collection-start-end
-part-fetch-flow-collection-start-end c = search needs
-
-fetch-flow-collection-start-requires : tie.Need-fetch-flow-collection-start-requires
-fetch-flow-collection-start-requires c κs =
-    let k = chosen (c .before .before .before .before .before .before) (c .before .before .before .before .c2 .given .1) in
-    (k .ready, bracket k (stood k) (search needs))
-
-enum-known-c-3 : tie.Need-enum-known-c-3
-enum-known-c-3 c = search needs
-
-sub-fetch-flow-collection-end : tie.Need-sub-fetch-flow-collection-end
-sub-fetch-flow-collection-end c = search needs
-
-part-fetch-flow-collection-end-start : tie.Need-part-fetch-flow-collection-end-start
-part-fetch-flow-collection-end-start c = search needs
-
-part-fetch-flow-collection-end-end : tie.Need-part-fetch-flow-collection-end-end
-part-fetch-flow-collection-end-end c = search needs
-
-fetch-flow-collection-end-requires : tie.Need-fetch-flow-collection-end-requires
-fetch-flow-collection-end-requires c κs =
-    let k = chosen (c .before .before .before .before .before) (c .before .before .before .c3 .given .1) in
-    (bracket k (stood k) (search needs), search needs)
-
 enum-told-5 : tie.Need-enum-told-5
 enum-told-5 c = search needs
 
@@ -124,7 +90,7 @@ part-fetch-content-end c = search needs
 fetch-content-requires : tie.Need-fetch-content-requires
 fetch-content-requires c κs =
     let p = start (c .before .before .before .before .before) .pre in
-    lexical (p .0) (search needs) (c .before .before .before .before .match .keys11) (p .1)
+    lexical (p .0) (search needs) (c .before .before .before .before .match .keys9) (p .1)
 
 same-length : tie.Need-same-length
 same-length c = search needs
@@ -183,41 +149,35 @@ same-length-8 c = search needs
 returns-6 : tie.Need-returns-6
 unfolding fetch
 returns-6 c =
-    let k = chosen (c .before .before .before .before .before .before .before .before .before .before .before) (c .before .before .before .before .before .before .before .before .before .c2 .given .1) in
-    by-rest k (c .before .before .before .before .fetch-flow-collection-start .ensures)
+    let k = chosen (c .before .before .before .before .before .before .before .before .before) (c .before .before .before .before .before .before .before .enum-told5 .given .1) in
+    by-one k (stood k) (c .before .before .before .before .fetch-block-entry .ensures)
 
 same-length-9 : tie.Need-same-length-9
 same-length-9 c = search needs
 
+same-length-10 : tie.Need-same-length-10
+same-length-10 c = search needs
+
 returns-7 : tie.Need-returns-7
 unfolding fetch
 returns-7 c =
-    let k = chosen (c .before .before .before .before .before .before .before .before) (c .before .before .before .before .before .before .c3 .given .1) in
-    by-rest k (c .before .before .fetch-flow-collection-end .ensures _ _ _ (k .ready))
-
-same-length-10 : tie.Need-same-length-10
-same-length-10 c = search needs
+    let k = chosen (c .before .before .before .before .before .before .before .before .before) (c .before .before .before .before .before .before .before .enum-told6 .given .1) in
+    by-one k (stood k) (c .before .before .before .before .fetch-key .ensures)
 
 same-length-11 : tie.Need-same-length-11
 same-length-11 c = search needs
 
-returns-8 : tie.Need-returns-8
-unfolding fetch
-returns-8 c =
-    let k = chosen (c .before .before .before .before .before .before .before .before .before) (c .before .before .before .before .before .before .before .enum-told5 .given .1) in
-    by-one k (stood k) (c .before .before .before .before .fetch-block-entry .ensures)
-
 same-length-12 : tie.Need-same-length-12
 same-length-12 c = search needs
 
+returns-8 : tie.Need-returns-8
+unfolding fetch
+returns-8 c =
+    let k = chosen (c .before .before .before .before .before .before .before .before .before) (c .before .before .before .before .before .before .before .enum-told7 .given .1) in
+    by-one k (stood k) (c .before .before .before .before .fetch-value .ensures)
+
 same-length-13 : tie.Need-same-length-13
 same-length-13 c = search needs
-
-returns-9 : tie.Need-returns-9
-unfolding fetch
-returns-9 c =
-    let k = chosen (c .before .before .before .before .before .before .before .before .before) (c .before .before .before .before .before .before .before .enum-told6 .given .1) in
-    by-one k (stood k) (c .before .before .before .before .fetch-key .ensures)
 
 same-length-14 : tie.Need-same-length-14
 same-length-14 c = search needs
@@ -225,23 +185,8 @@ same-length-14 c = search needs
 same-length-15 : tie.Need-same-length-15
 same-length-15 c = search needs
 
-returns-10 : tie.Need-returns-10
-unfolding fetch
-returns-10 c =
-    let k = chosen (c .before .before .before .before .before .before .before .before .before) (c .before .before .before .before .before .before .before .enum-told7 .given .1) in
-    by-one k (stood k) (c .before .before .before .before .fetch-value .ensures)
-
-same-length-16 : tie.Need-same-length-16
-same-length-16 c = search needs
-
-same-length-17 : tie.Need-same-length-17
-same-length-17 c = search needs
-
-same-length-18 : tie.Need-same-length-18
-same-length-18 c = search needs
-
-returns-11 : tie.Need-returns-11
-returns-11 c =
+returns-9 : tie.Need-returns-9
+returns-9 c =
     let k = start (c .before .before .before .before .before .before .before .before .before .before) .pre .0 in
     by-text k (c .before .before .before .before .fetch-content .ensures _ (k .ready))
 
@@ -262,16 +207,6 @@ fetch-other-spec =
     part-fetch-document-indicator-start
     part-fetch-document-indicator-end
     fetch-document-indicator-requires
-    enum-known-c-2
-    sub-fetch-flow-collection-start
-    part-fetch-flow-collection-start-start
-    part-fetch-flow-collection-start-end
-    fetch-flow-collection-start-requires
-    enum-known-c-3
-    sub-fetch-flow-collection-end
-    part-fetch-flow-collection-end-start
-    part-fetch-flow-collection-end-end
-    fetch-flow-collection-end-requires
     enum-told-5
     fetch-block-entry-requires
     enum-told-6
@@ -297,17 +232,12 @@ fetch-other-spec =
     same-length-8
     returns-6
     same-length-9
-    returns-7
     same-length-10
+    returns-7
     same-length-11
-    returns-8
     same-length-12
+    returns-8
     same-length-13
-    returns-9
     same-length-14
     same-length-15
-    returns-10
-    same-length-16
-    same-length-17
-    same-length-18
-    returns-11)
+    returns-9)

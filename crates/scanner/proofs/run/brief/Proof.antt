@@ -1,0 +1,96 @@
+use mathlib.Core.Path.{_≡_, ap, refl}
+use denote.Ref.{now}
+use borrow.Author.Needs.{needs}
+use Rattle.states.specs.Brief.{brief-fetched}
+use Rattle.scanner.specs.Run.{Fine, ending}
+use Rattle.scanner.proofs.Token.{goes, heard-as, token-chosen, token-counts, token-goes, token-refused}
+use Rattle.scanner.proofs.run.brief.Statement.{statement}
+use Rattle.scanner.proofs.run.brief.Tie as tie
+
+-- THE PLACES: a token was fetched
+abbrev start : tie.After-fetch-brief → tie.Start
+start f = f .before .before .before .before .before .before .before .before .before .before
+
+fine : (f : tie.After-fetch-brief) → let a = start f .args in Fine (a .limits) (now (a .text)) (now (a .entries)) (now (a .frames)) (a .s) (a .n)
+fine f = start f .pre .0
+
+ended : (f : tie.After-fetch-brief) → f .before .before .before .before .ending .result ≡ ending (start f .args .n) (start f .args .ended)
+ended f = f .before .before .before .before .ending .ensures
+
+ending-requires : tie.Need-ending-requires
+ending-requires c κs = search needs
+
+fetch-brief-requires : tie.Need-fetch-brief-requires
+fetch-brief-requires c κs = let a = c .before .before .before .before .before .before .before .before .before in (token-chosen (a .pre .0) (a .args .ended) (a .pre .1) (c .before .before .before .ending .ensures) (a .pre .2), a .pre .3)
+
+enum-known-r : tie.Need-enum-known-r
+enum-known-r c = search needs
+
+enum-known-r-2 : tie.Need-enum-known-r-2
+enum-known-r-2 c = search needs
+
+put-brief-requires : tie.Need-put-brief-requires
+put-brief-requires c κs = search needs
+
+brief-event-requires : tie.Need-brief-event-requires
+brief-event-requires c κs = search needs
+
+counting-requires : tie.Need-counting-requires
+counting-requires c κs =
+    let f = c .before .before .before .before .before .before .before .before .before .before .before .before .before .before in
+    rw (c .brief-event .ensures)
+    (token-counts (fine f) (start f .args .ended) (start f .pre .1) (ended f) (f .fetch-brief .ensures) (heard-as (ap brief-fetched (c .before .before .before .before .before .before .r2 .given .1)) refl goes))
+
+same-length : tie.Need-same-length
+same-length c = search needs
+
+same-length-2 : tie.Need-same-length-2
+same-length-2 c = search needs
+
+same-length-3 : tie.Need-same-length-3
+same-length-3 c = search needs
+
+returns : tie.Need-returns
+returns c =
+    let f = c .before .before .before .before .before .before .before .before .before in
+    token-refused (fine f) (start f .args .ended) (start f .pre .1) (ended f) (rw (c .before .r .given .1) at (f .fetch-brief .ensures))
+
+same-length-4 : tie.Need-same-length-4
+same-length-4 c = c .before .before .before .before .before .before .before .before .before .before .before .before .before .before .before .fetch-brief .kept .1 .1 .1 .1 .1 .0
+
+same-length-5 : tie.Need-same-length-5
+same-length-5 c = search needs
+
+same-length-6 : tie.Need-same-length-6
+same-length-6 c = search needs
+
+same-length-7 : tie.Need-same-length-7
+same-length-7 c = search needs
+
+returns-2 : tie.Need-returns-2
+returns-2 c =
+    let f = c .before .before .before .before .before .before .before .before .before .before .before .before .before .before .before in
+    let kept = f .fetch-brief .kept .1 .1 .1 .1 .1 in
+    token-goes (fine f) (start f .args .ended) (start f .pre .1) (ended f) (f .fetch-brief .ensures) (ap brief-fetched (c .before .before .before .before .before .before .before .r2 .given .1))
+    (kept .0) (kept .1 .0) (c .before .before .before .before .put-brief .ensures) (rw (c .before .brief-event .ensures) at (c .counting .ensures))
+
+pub brief-spec : {M : Type 1} → statement M
+brief-spec =
+    tie.close
+    (tie.spec
+    ending-requires
+    fetch-brief-requires
+    enum-known-r
+    enum-known-r-2
+    put-brief-requires
+    brief-event-requires
+    counting-requires
+    same-length
+    same-length-2
+    same-length-3
+    returns
+    same-length-4
+    same-length-5
+    same-length-6
+    same-length-7
+    returns-2)
