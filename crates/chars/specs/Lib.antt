@@ -5,3 +5,4 @@ pub mod View
 pub mod Places
 pub mod Lines
 pub mod Parts
+pub mod Each

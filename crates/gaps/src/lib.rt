@@ -7,12 +7,13 @@ ghost use Rattle.yaml_text.specs.Pick.{pick};
 ghost use Rattle.yaml_text.specs.Utf8.{chars};
 ghost use Rattle.yaml_lexeme.specs.declared.Before.the-variants.{AfterText, Leading, Tabbed};
 ghost use Rattle.yaml_lexeme.specs.Gap.{blanks, blanks-and-comment, on-blank, skip-gap, to-break};
+ghost use Rattle.chars.specs.Each.{Each, count-of, one-of};
 ghost use Rattle.chars.specs.View.{Moves, Stands, view};
 ghost use Rattle.reading.specs.Reading.{Reaches};
 ghost use Rattle.gaps.specs.declared.Gapped.the-variants.{Got, Refused};
 ghost use Rattle.gaps.specs.Gap.{Open, Other, Skips, gap-from};
 ghost use Rattle.gaps.specs.Line.{is-low, line, low-run};
-ghost use Rattle.gaps.specs.Spaces.{Spaces, one-space, space-run, spaces-in};
+ghost use Rattle.gaps.specs.Spaces.{is-space, space-run};
 ghost use Rattle.chars.specs.Parts.{Spans};
 use chars::class::is_blank;
 use chars::class::is_break;
@@ -212,7 +213,7 @@ fn before_of(leads: bool) -> Before
 
 // 1 for a space, else 0.
 fn one_space(b: u8) -> u8
-    ensures { λ r. ⌜ r ≡ one-space b ⌝ }
+    ensures { λ r. ⌜ r ≡ one-of is-space b ⌝ }
 {
     if b == 32 { 1 } else { 0 }
 }
@@ -220,7 +221,7 @@ fn one_space(b: u8) -> u8
 // How many of at most 16 bytes are spaces. The loop has no exit, so that it is vectorised.
 fn spaces_in(s: &[u8]) -> u8
     requires { ⌜ length (now s) ≤ 16 ⌝ }
-    ensures { λ r. ⌜ r ≡ spaces-in (now (s .entry)) ⌝ }
+    ensures { λ r. ⌜ r ≡ count-of is-space (now (s .entry)) ⌝ }
 {
     let mut n: u8 = 0;
     let mut i = 0;
@@ -234,7 +235,7 @@ fn spaces_in(s: &[u8]) -> u8
 // Over blocks of 16 spaces.
 fn past_space_blocks(text: &[u8], start: usize) -> usize
     requires { ⌜ start ≤ length (now text) ⌝ }
-    ensures { λ r. ⌜ Spaces (now (text .entry)) start r ⌝ }
+    ensures { λ r. ⌜ Each is-space (now (text .entry)) start r ⌝ }
 {
     let mut at = start;
     while at + 16 <= text.len() {
@@ -249,7 +250,7 @@ fn past_space_blocks(text: &[u8], start: usize) -> usize
 // Over spaces that stand in blocks, where the place is one that a block is tried at.
 fn past_some_spaces(text: &[u8], at: usize) -> usize
     requires { ⌜ at ≤ length (now text) ⌝ }
-    ensures { λ r. ⌜ Spaces (now (text .entry)) at r ⌝ }
+    ensures { λ r. ⌜ Each is-space (now (text .entry)) at r ⌝ }
 {
     if at % 16 != 0 {
         return at;

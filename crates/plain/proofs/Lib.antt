@@ -1,4 +1,3 @@
-pub mod Blocks
 pub mod Ends
 pub mod First
 pub mod On

@@ -12,13 +12,14 @@ use Rattle.yaml_text.specs.Class.{isBlank, none-left}
 use Rattle.yaml_text.specs.Mark.{along, along-by, here}
 use Rattle.yaml_text.specs.Utf8.{chars, first}
 use Rattle.yaml_lexeme.specs.Plain.{plain-text}
+use Rattle.chars.specs.Each.{Each}
 use Rattle.chars.specs.declared.mark.Place.{Place}
 use Rattle.chars.specs.Ascii.{blank-ascii}
 use Rattle.chars.specs.Bytes.{ascii-at, ascii-char}
 use Rattle.chars.specs.Parts.{Spans, part, part-more, part-none}
 use Rattle.chars.specs.Places.{stands-along}
 use Rattle.chars.specs.View.{Stands}
-use Rattle.plain.specs.Text.{Ordinaries, ordinary, text-length}
+use Rattle.plain.specs.Text.{ordinary, text-length}
 use Rattle.plain.proofs.Ends.{Goes, blank-unmarked, goes-by, ordinary-ascii, ordinary-unblank, ordinary-unmarked, stops-by, unmarked}
 use Rattle.plain.proofs.Turns.{Coded, coded, resume, resume-here, turn-blank, turn-text}
 
@@ -121,7 +122,7 @@ on-turns {s} {flow} {p} {at} {extra} o (suc n) h =
     let k : at + n + 1 ≡ at + suc n = omega arith in
     rw k at (on-ordinary (on-turns o n (λ i a b. h i a (omega arith))) (getD s (at + n) 0) refl (h (at + n) (omega arith) (omega arith)))
 
-pub on-run : {s : List ℕ} {flow : Bool} {p : Place} {at extra r : ℕ} → On s flow p at at extra → Ordinaries s at r → On s flow p r r extra
+pub on-run : {s : List ℕ} {flow : Bool} {p : Place} {at extra r : ℕ} → On s flow p at at extra → Each ordinary s at r → On s flow p r r extra
 on-run {s} {flow} {p} {at} {extra} {r} o w =
     let k : at + (r - at) ≡ r = omega (arith, w .onward) in
     rw k at (on-turns o (r - at) (λ i a b. w .each i a (omega arith)))

@@ -8,10 +8,11 @@ ghost use Rattle.yaml_text.specs.Mark.{along-by};
 ghost use Rattle.yaml_text.specs.Refusal.{got};
 ghost use Rattle.yaml_text.specs.Utf8.{chars};
 ghost use Rattle.yaml_lexeme.specs.Plain.{plain-stops, plain-text, scan-plain-scalar};
+ghost use Rattle.chars.specs.Each.{Each, count-of, one-of};
 ghost use Rattle.chars.specs.Parts.{Spans};
 ghost use Rattle.chars.specs.View.{Small, Stands, view};
 ghost use Rattle.reading.specs.Reading.{Given, Lexes, first-at};
-ghost use Rattle.plain.specs.Text.{Ordinaries, ends-at-colon, ordinaries-of, ordinary, ordinary-of, text-length};
+ghost use Rattle.plain.specs.Text.{ends-at-colon, ordinary, text-length};
 use chars::class::is_blank;
 use chars::class::is_blank_or_breakz;
 use chars::class::is_bom;
@@ -85,7 +86,7 @@ fn is_ordinary(b: u8) -> bool
 
 // 1 for an ordinary byte, else 0.
 fn one_ordinary(b: u8) -> u8
-    ensures { λ r. ⌜ r ≡ ordinary-of b ⌝ }
+    ensures { λ r. ⌜ r ≡ one-of ordinary b ⌝ }
 {
     if is_ordinary(b) { 1 } else { 0 }
 }
@@ -93,7 +94,7 @@ fn one_ordinary(b: u8) -> u8
 // How many of at most 16 bytes are ordinary. The loop has no exit, so that it is vectorised.
 fn ordinaries(s: &[u8]) -> u8
     requires { ⌜ length (now s) ≤ 16 ⌝ }
-    ensures { λ r. ⌜ r ≡ ordinaries-of (now (s .entry)) ⌝ }
+    ensures { λ r. ⌜ r ≡ count-of ordinary (now (s .entry)) ⌝ }
 {
     let mut n: u8 = 0;
     let mut i = 0;
@@ -107,7 +108,7 @@ fn ordinaries(s: &[u8]) -> u8
 // Past the blocks of 16 ordinary bytes here.
 fn past_blocks(text: &[u8], start: usize) -> usize
     requires { ⌜ start ≤ length (now text) ⌝ }
-    ensures { λ r. ⌜ Ordinaries (now (text .entry)) start r ⌝ }
+    ensures { λ r. ⌜ Each ordinary (now (text .entry)) start r ⌝ }
 {
     let mut at = start;
     while at + 16 <= text.len() {

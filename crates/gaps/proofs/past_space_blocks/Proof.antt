@@ -2,18 +2,20 @@
 use Prim.Native.Nat.{_-_}
 use lib.ListN.{length}
 use borrow.Author.Needs.{needs}
-use Rattle.gaps.specs.Spaces.{Spaces, spaces-block, spaces-start, spaces-then}
+use native.Mathlib.Omega.{arith}
+use Rattle.chars.specs.Each.{Each, each-block, each-none, each-then}
+use Rattle.gaps.specs.Spaces.{is-space}
 use Rattle.gaps.proofs.past_space_blocks.Statement.{statement}
 use Rattle.gaps.proofs.past_space_blocks.Tie as tie
 
 abbrev Inv-loop : tie.InvT-loop
-Inv-loop text start at₀ at = Spaces text start at
+Inv-loop text start at₀ at = Each is-space text start at
 
 abbrev μ-loop : tie.MeasureT-loop
 μ-loop text start at₀ at = length text - at
 
 loop-holds : tie.Need-loop-holds Inv-loop μ-loop
-loop-holds c = spaces-start (c .before .pre)
+loop-holds c = each-none (c .before .pre)
 
 add-loop : tie.Need-add-loop Inv-loop μ-loop
 add-loop c = search needs
@@ -44,7 +46,7 @@ loop-less c = search needs
 
 loop-again : tie.Need-loop-again Inv-loop μ-loop
 loop-again c =
-    spaces-then (c .before .before .before .before .loop .inv) (spaces-block (c .before .before .before .loop-test .taken) (c .before .spaces-in .ensures) (c .if1 .left))
+    each-then (c .before .before .before .before .loop .inv) (each-block (c .before .before .before .loop-test .taken) (c .before .spaces-in .ensures) (omega (arith, c .if1 .left)))
 
 returns-2 : tie.Need-returns-2 Inv-loop μ-loop
 returns-2 c = c .before .loop .inv

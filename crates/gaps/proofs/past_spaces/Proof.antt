@@ -3,18 +3,21 @@ use Prim.Native.Nat.{_-_}
 use native.Mathlib.Omega.{arith}
 use lib.ListN.{length}
 use borrow.Author.Needs.{needs}
-use Rattle.gaps.specs.Spaces.{Spaces, spaces-one, spaces-over, spaces-past, spaces-start, spaces-then}
+use borrow.Author.Tests.{eq-eqb}
+use Rattle.yaml_text.specs.Char.{space}
+use Rattle.chars.specs.Each.{Each, each-none, each-one, each-then}
+use Rattle.gaps.specs.Spaces.{is-space, spaces-over, spaces-past}
 use Rattle.gaps.proofs.past_spaces.Statement.{statement}
 use Rattle.gaps.proofs.past_spaces.Tie as tie
 
 abbrev Inv-loop : tie.InvT-loop
-Inv-loop text start at₀ at = Spaces text start at
+Inv-loop text start at₀ at = Each is-space text start at
 
 abbrev μ-loop : tie.MeasureT-loop
 μ-loop text start at₀ at = length text - at
 
 loop-holds : tie.Need-loop-holds Inv-loop μ-loop
-loop-holds c = spaces-start (c .before .pre)
+loop-holds c = each-none (c .before .pre)
 
 shared-slice-read-if1 : tie.Need-shared-slice-read-if1 Inv-loop μ-loop
 shared-slice-read-if1 c = search needs
@@ -32,9 +35,10 @@ loop-less : tie.Need-loop-less Inv-loop μ-loop
 loop-less c = omega (arith, c .past-some-spaces .ensures, c .before .before .before .loop-test .taken)
 
 loop-again : tie.Need-loop-again Inv-loop μ-loop
+unfolding is-space
 loop-again c =
-    let one = spaces-one (c .before .before .before .loop-test .taken) (c .before .if1 .left) in
-    spaces-then (c .before .before .before .before .loop .inv) (spaces-then one (c .past-some-spaces .ensures))
+    let one = each-one (c .before .before .before .loop-test .taken) (eq-eqb _ space (c .before .if1 .left)) in
+    each-then (c .before .before .before .before .loop .inv) (each-then one (c .past-some-spaces .ensures))
 
 returns-2 : tie.Need-returns-2 Inv-loop μ-loop
 returns-2 c = spaces-past (c .before .loop .inv) (c .loop-test .left)

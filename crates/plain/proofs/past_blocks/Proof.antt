@@ -2,19 +2,19 @@ use Prim.Native.Nat.{_-_}
 use native.Mathlib.Omega.{arith}
 use lib.ListN.{length}
 use borrow.Author.Needs.{needs}
-use Rattle.plain.specs.Text.{Ordinaries}
-use Rattle.plain.proofs.Blocks.{run-block, run-join, run-none}
+use Rattle.chars.specs.Each.{Each, each-block, each-none, each-then}
+use Rattle.plain.specs.Text.{ordinary}
 use Rattle.plain.proofs.past_blocks.Statement.{statement}
 use Rattle.plain.proofs.past_blocks.Tie as tie
 
 abbrev Inv-loop : tie.InvT-loop
-Inv-loop text start at₀ at = Ordinaries text start at
+Inv-loop text start at₀ at = Each ordinary text start at
 
 abbrev μ-loop : tie.MeasureT-loop
 μ-loop text start at₀ at = length text - at
 
 loop-holds : tie.Need-loop-holds Inv-loop μ-loop
-loop-holds c = run-none _ _ (search needs)
+loop-holds c = each-none (c .before .pre)
 
 add-loop : tie.Need-add-loop Inv-loop μ-loop
 add-loop c = search needs
@@ -44,7 +44,7 @@ loop-less : tie.Need-loop-less Inv-loop μ-loop
 loop-less c = search needs
 
 loop-again : tie.Need-loop-again Inv-loop μ-loop
-loop-again c = run-join (c .before .before .before .before .loop .inv) (run-block _ _ _ _ (search needs) (c .before .ordinaries .ensures) (omega (arith, c .if1 .left)))
+loop-again c = each-then (c .before .before .before .before .loop .inv) (each-block (c .before .before .before .loop-test .taken) (c .before .ordinaries .ensures) (omega (arith, c .if1 .left)))
 
 returns-2 : tie.Need-returns-2 Inv-loop μ-loop
 returns-2 c = c .before .loop .inv

@@ -1,0 +1,92 @@
+-- Bytes of a class between two places of a text; and how many of a block are, as a loop without an exit counts them: where all are, each is.
+use Prim.Native.Nat.{_+_, _-_, _<_, _≤_, suc, zero, ℕ}
+use mathlib.Core.Bool.{Bool, false, true}
+use mathlib.Core.List.{List, [], _∷_}
+use mathlib.Core.Path.{_∙_, _≡_, sym}
+use native.Mathlib.Numerals.{add-one}
+use native.Mathlib.Omega.{arith}
+use lib.Dec.{ltb}
+use lib.ListN.{drop, drop-of-length-le, getD, length, length-drop, take}
+use lib.Seq.{drop-cons, getD-drop, getD-take, length-take-le}
+use borrow.Author.Tests.{ltb-false, ltb-true}
+use Rattle.yaml_text.specs.Pick.{pick}
+use Rattle.yaml_text.specs.Test.{by-test}
+
+-- 1 for a byte of the class, else 0
+unfoldable pub one-of : (ℕ → Bool) → ℕ → ℕ
+one-of p b = pick (p b) 1 0
+
+unfoldable pub count-of : (ℕ → Bool) → List ℕ → ℕ
+count-of p [] = 0
+count-of p (b ∷ l) = one-of p b + count-of p l
+
+-- each byte from at to r is of the class
+pub record Each (p : ℕ → Bool) (s : List ℕ) (at r : ℕ) : Type 0 where
+  pub onward : at ≤ r
+  pub within : r ≤ length s
+  pub each : (i : ℕ) → at ≤ i → i < r → p (getD s i 0) ≡ true
+
+module _ (p : ℕ → Bool) where
+  pub one-yes : (b : ℕ) → p b ≡ true → 1 ≡ one-of p b
+  unfolding one-of
+  one-yes b e = rw e
+
+  pub one-no : (b : ℕ) → p b ≡ false → 0 ≡ one-of p b
+  unfolding one-of
+  one-no b e = rw e
+
+  pub one-most : (b : ℕ) → one-of p b ≤ 1
+  one-most b = by-test (p b) (λ t. omega (arith, one-yes b t)) (λ t. omega (arith, one-no b t))
+
+  one-true : (b : ℕ) → one-of p b ≡ 1 → p b ≡ true
+  one-true b e = by-test (p b) (λ t. t) (λ t. absurd (omega (arith, one-no b t)))
+
+  -- the loop that counts
+  pub count-more : (s : List ℕ) (i : ℕ) → i < length s → count-of p (drop i s) ≡ one-of p (getD s i 0) + count-of p (drop (i + 1) s)
+  unfolding count-of
+  count-more s i h = rw (drop-cons s i 0, add-one i)
+
+  pub count-none : (s : List ℕ) (i : ℕ) → length s ≤ i → count-of p (drop i s) ≡ 0
+  unfolding count-of
+  count-none s i h = rw drop-of-length-le
+
+  count-most : (l : List ℕ) → count-of p l ≤ length l
+  unfolding count-of
+  count-most [] = omega arith
+  count-most (b ∷ l) = omega (arith, one-most b, count-most l)
+
+  counted : (l : List ℕ) → count-of p l ≡ length l → (i : ℕ) → i < length l → p (getD l i 0) ≡ true
+  unfolding count-of
+  counted [] e i h = absurd (omega arith)
+  counted (b ∷ l) e zero h = one-true b (omega (arith, one-most b, count-most l))
+  counted (b ∷ l) e (suc i) h = counted l (omega (arith, one-most b, count-most l)) i (omega arith)
+
+module _ {p : ℕ → Bool} {s : List ℕ} where
+  pub each-none : {at : ℕ} → at ≤ length s → Each p s at at
+  each-none h = record { onward = omega arith; within = h; each = λ i l m. absurd (omega arith) }
+
+  pub each-one : {at : ℕ} → at < length s → p (getD s at 0) ≡ true → Each p s at (at + 1)
+  each-one {at} h e =
+      record { onward = omega arith; within = omega arith; each = λ i l m. let z : i ≡ at = omega arith in rw z e }
+
+  pub each-then : {at m r : ℕ} → Each p s at m → Each p s m r → Each p s at r
+  each-then {m = m} x y =
+      record {
+        onward = omega (arith, x .onward, y .onward);
+        within = y .within;
+        each = λ i l h. by-test (ltb i m) (λ t. x .each i l (ltb-true i m t)) (λ t. y .each i (ltb-false i m t) h);
+      }
+
+  -- a block whose bytes are all counted
+  pub each-block : {at e n : ℕ} → e ≤ length s → n ≡ count-of p (take (e - at) (drop at s)) → e ≡ at + n → Each p s at e
+  each-block {at} {e} {n} h f g =
+      let k : e - at ≡ n = omega arith in
+      let l : length (take n (drop at s)) ≡ n = length-take-le n (drop at s) (rw length-drop (omega arith)) in
+      record {
+        onward = omega arith;
+        within = h;
+        each = λ i a b.
+            let j : at + (i - at) ≡ i = omega arith in
+            let c = counted p (take n (drop at s)) (sym (rw k at f) ∙ sym l) (i - at) (rw l (omega arith)) in
+            rw (getD-take n (drop at s) (i - at) 0 (omega arith), getD-drop at s (i - at) 0, j) at c;
+      }

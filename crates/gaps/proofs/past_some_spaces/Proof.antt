@@ -1,0 +1,16 @@
+use borrow.Author.Needs.{needs}
+use Rattle.chars.specs.Each.{each-none}
+use Rattle.gaps.proofs.past_some_spaces.Statement.{statement}
+use Rattle.gaps.proofs.past_some_spaces.Tie as tie
+
+returns : tie.Need-returns
+returns c = each-none (search needs)
+
+past-space-blocks-requires : tie.Need-past-space-blocks-requires
+past-space-blocks-requires c κs = search needs
+
+returns-2 : tie.Need-returns-2
+returns-2 c = search needs
+
+pub past-some-spaces-spec : {M : Type 1} → statement M
+past-some-spaces-spec = tie.close (tie.spec returns past-space-blocks-requires returns-2)
