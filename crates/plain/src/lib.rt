@@ -6,7 +6,7 @@ ghost use lib.ListN.{drop, getD, length};
 ghost use Rattle.yaml_text.specs.Class.{isZ, peek};
 ghost use Rattle.yaml_text.specs.Mark.{along-by};
 ghost use Rattle.yaml_text.specs.Refusal.{got};
-ghost use Rattle.yaml_text.specs.Utf8.{chars};
+ghost use Rattle.yaml_text.specs.Utf8.{chars, first};
 ghost use Rattle.yaml_lexeme.specs.Plain.{plain-stops, plain-text, scan-plain-scalar};
 ghost use Rattle.chars.specs.Each.{Each, count-of, one-of};
 ghost use Rattle.chars.specs.Parts.{Spans};
@@ -26,6 +26,8 @@ use utf8::byte;
 use utf8::char_at;
 use utf8::lead_len;
 use utf8::look;
+use utf8::three_bytes;
+use utf8::two_bytes;
 use yaml_lexeme::Kind;
 use yaml_lexeme::Style;
 use yaml_text::Decoded;
@@ -56,6 +58,21 @@ fn stops(text: &[u8], at: usize, flow: bool, blank: bool, b: u8) -> bool
     is_breakz(b as u32)
 }
 
+// The character that begins with the byte b from 128 up at a place. Of four bytes there are few.
+fn wide_at(text: &[u8], at: usize, b: u8) -> Decoded
+    requires { ⌜ (at ≤ length (now text)) × (b ≡ getD (now text) at 0) × (128 ≤ b) ⌝ }
+    ensures { λ r. ⌜ r ≡ first (drop at (now (text .entry))) ⌝ }
+{
+    let n = lead_len(b);
+    if n == 2 {
+        return two_bytes(b, byte(text, at + 1));
+    }
+    if n == 3 {
+        return three_bytes(b, byte(text, at + 1), byte(text, at + 2));
+    }
+    char_at(text, at)
+}
+
 // How many bytes the character takes that begins with the byte b at a place; 0: the text ends before it.
 fn text_length(text: &[u8], at: usize, flow: bool, blank: bool, b: u8) -> usize
     requires { ⌜ (at ≤ length (now text)) × (b ≡ getD (now text) at 0) ⌝ }
@@ -67,7 +84,7 @@ fn text_length(text: &[u8], at: usize, flow: bool, blank: bool, b: u8) -> usize
         }
         return 1;
     }
-    let d = char_at(text, at);
+    let d = wide_at(text, at, b);
     let Decoded::Char { code, len } = d else {
         return 0;
     };

@@ -13,23 +13,23 @@ returns c = low-stops _ _ _ _ _ (c .before .before .before .before .pre .1) (c .
 returns-2 : tie.Need-returns-2
 returns-2 c = low-goes _ _ _ _ _ (c .before .before .before .before .pre .1) (c .before .before .if1 .taken) (sym (c .before .stops .ensures) ∙ c .if2 .left)
 
-char-at-requires : tie.Need-char-at-requires
-char-at-requires c κs = search needs
+wide-at-requires : tie.Need-wide-at-requires
+wide-at-requires c κs = search needs
 
 enum-known-d : tie.Need-enum-known-d
 enum-known-d c = search needs
 
 returns-3 : tie.Need-returns-3
-returns-3 c = none-length _ _ _ _ _ (c .before .char-at .ensures) (c .match .keys2)
+returns-3 c = none-length _ _ _ _ _ (c .before .wide-at .ensures) (c .match .keys2)
 
 is-bom-requires : tie.Need-is-bom-requires
 is-bom-requires c κs = search needs
 
 returns-4 : tie.Need-returns-4
-returns-4 c = high-stops _ _ _ _ _ _ (sym (c .before .before .before .before .before .char-at .ensures) ∙ c .before .before .before .d .given .1) (sym (c .before .is-bom .ensures) ∙ c .if3 .taken)
+returns-4 c = high-stops _ _ _ _ _ _ (sym (c .before .before .before .before .before .wide-at .ensures) ∙ c .before .before .before .d .given .1) (sym (c .before .is-bom .ensures) ∙ c .if3 .taken)
 
 returns-5 : tie.Need-returns-5
-returns-5 c = high-goes _ _ _ _ _ (c .before .before .before .before .before .before .before .before .pre .1) (c .before .before .before .before .before .before .if1 .left) _ _ (sym (c .before .before .before .before .before .char-at .ensures) ∙ c .before .before .before .d .given .1) (sym (c .before .is-bom .ensures) ∙ c .if3 .left)
+returns-5 c = high-goes _ _ _ _ _ (c .before .before .before .before .before .before .before .before .pre .1) (c .before .before .before .before .before .before .if1 .left) _ _ (sym (c .before .before .before .before .before .wide-at .ensures) ∙ c .before .before .before .d .given .1) (sym (c .before .is-bom .ensures) ∙ c .if3 .left)
 
 pub text-length-spec : {M : Type 1} → statement M
 text-length-spec =
@@ -38,7 +38,7 @@ text-length-spec =
     stops-requires
     returns
     returns-2
-    char-at-requires
+    wide-at-requires
     enum-known-d
     returns-3
     is-bom-requires
