@@ -35,6 +35,10 @@ def texts(size):
         "empty-brackets": repeated(lambda n: "{}, [], ", size, "[", "a]\n"),
         "one-scalar": repeated(lambda n: "a", size),
         "blank-lines": repeated(lambda n: " " * 79 + "\n", size),
+        "one-cjk-scalar": repeated(lambda n: chr(0x4E00 + n % 20000), size),
+        "quotes-in-quotes": repeated(lambda n: "''", size, "'", "'\n"),
+        "markers": repeated(lambda n: "---\n", size),
+        "dashes": repeated(lambda n: "-\n", size),
         "quoted-flow": repeated(lambda n: f'{{"name": "{word()}", "value": {n}, "sites": ["{word()}", "{word()}"]}}, ', size, "[", "1]\n"),
         "tags": repeated(lambda n: f"- !!{word()} &{word()} {word()}\n- *{word()}\n", size),
     }
