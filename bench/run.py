@@ -1,7 +1,7 @@
 #!/usr/bin/env python3
 """run.py [--rounds N]: scans the benchmark's texts with every scanner that was built, in one run; prints MB/s, tokens/s and peak memory of each,
 the ratio to the best peer, and how time grows from 64 KB to 1 MB. bench/build.sh builds what this runs."""
-import os, subprocess, sys, time
+import os, statistics, subprocess, sys
 
 HERE = os.path.dirname(os.path.abspath(__file__))
 OUT = os.environ.get("BENCH_OUT", os.path.join(HERE, "..", "target", "bench"))
@@ -26,44 +26,32 @@ def measure(command, rounds, file):
     return float(best), int(tokens), int(peak), int(size)
 
 
-def better(a, b):
-    """The quicker of two runs; a refused one counts for nothing."""
-    if b is None or b[1] < 0:
-        return a
-    return b if a is None else min(a, b)
-
-
-def spin():
-    """Seconds for a fixed loop: how fast the machine is now."""
-    start = time.perf_counter()
-    sum(range(1_000_000))
-    return time.perf_counter() - start
-
-
-def steady(job, found, quickest):
-    """A run of a job between two loops that took at most a tenth more than the quickest one did; of four tries none may be."""
-    name, size, scanner = job
-    for _ in range(4):
-        before = spin()
-        run = measure(found[scanner], 3, os.path.join(OUT, f"texts-{size}", name + ".yaml"))
-        if max(before, spin()) <= 1.1 * quickest:
-            return run
-    return None
-
-
-def compare(jobs, found):
-    """The best run of each job. All stay on one core, and rounds are outermost: a change of the machine's speed is met by all alike."""
+def rounds_of(jobs, found):
+    """What each job took, round by round. All stay on one core, and the scanners of a text run side by side in each round: a change of the machine's
+    speed is met by all alike."""
     os.sched_setaffinity(0, {0})
-    quickest = min(spin() for _ in range(200))
-    best = {job: None for job in jobs}
+    taken = {job: [] for job in jobs}
     for _ in range(ROUNDS):
         for job in jobs:
-            best[job] = better(best[job], steady(job, found, quickest))
-    return best
+            name, size, scanner = job
+            taken[job].append(measure(found[scanner], 3, os.path.join(OUT, f"texts-{size}", name + ".yaml")))
+    return taken
 
 
-def cell(r):
-    return "none" if r is None else f"{r[3] / r[0] * 1e3:.1f} MB/s, {r[1] / r[0] * 1e3:.1f} Mtok/s, {r[2] / 1024:.0f} MB"
+def accepted(runs):
+    return all(r is not None and r[1] >= 0 for r in runs)
+
+
+def middle(ratios):
+    """The median, with the least and the most."""
+    return f"{statistics.median(ratios):.2f} ({min(ratios):.2f} to {max(ratios):.2f})"
+
+
+def cell(runs):
+    if not accepted(runs):
+        return "none"
+    ns, tokens, peak, size = min(runs)
+    return f"{size / ns * 1e3:.1f} MB/s, {tokens / ns * 1e3:.1f} Mtok/s, {peak / 1024:.0f} MB"
 
 
 def main():
@@ -72,15 +60,15 @@ def main():
         subprocess.run([sys.executable, os.path.join(HERE, "texts.py"), os.path.join(OUT, f"texts-{size}"), str(size)], check=True)
     small, last = SIZES
     names = sorted(f[:-5] for f in os.listdir(os.path.join(OUT, f"texts-{last}")))
-    best = compare([(name, last, n) for name in names for n in found] + [(name, small, "tokenglade") for name in names], found)
+    taken = rounds_of([job for name in names for job in [(name, small, "tokenglade")] + [(name, last, n) for n in found]], found)
     print("| Text | " + " | ".join(found) + " | against the best peer | time, 1 MB to 64 KB |")
     print("|---" * (len(found) + 3) + "|")
     for name in names:
-        ours, first = best[name, last, "tokenglade"], best[name, small, "tokenglade"]
-        peers = [best[name, last, n][0] for n in found if not n.startswith("tokenglade") and best[name, last, n]]
-        ratio = f"{min(peers) / ours[0]:.2f}" if peers and ours else "-"
-        growth = f"{ours[0] / first[0]:.1f}" if ours and first else "-"
-        print(f"| {name} | " + " | ".join(cell(best[name, last, n]) for n in found) + f" | {ratio} | {growth} |", flush=True)
+        ours, first = taken[name, last, "tokenglade"], taken[name, small, "tokenglade"]
+        peers = [taken[name, last, n] for n in found if not n.startswith("tokenglade") and accepted(taken[name, last, n])]
+        ratio = middle([min(p[r][0] for p in peers) / ours[r][0] for r in range(ROUNDS)])
+        growth = statistics.median(ours[r][0] / first[r][0] for r in range(ROUNDS))
+        print(f"| {name} | " + " | ".join(cell(taken[name, last, n]) for n in found) + f" | {ratio} | {growth:.1f} |", flush=True)
 
 
 main()

@@ -26,6 +26,7 @@ use stacks::indent::top_ends;
 use states::Brief;
 use states::State;
 use states::behind;
+use states::refuse_brief;
 use utf8::byte;
 use yaml_lexeme::Kind;
 use yaml_lexeme::Token;
@@ -33,15 +34,6 @@ use yaml_scan::Level;
 use yaml_scan::Limits;
 use yaml_text::Mark;
 use yaml_text::Refusal;
-
-fn refuse(number: u32, mark: Mark) -> Brief
-    ensures { λ r. ⌜ r ≡ brief.Refused (record { number = number; mark = mark }) ⌝ }
-{
-    Brief::Refused(Refusal {
-        number: number,
-        mark: mark,
-    })
-}
 
 // A fresh entry of a level.
 fn new_level(sequence: bool) -> Level
@@ -162,10 +154,10 @@ pub fn fetch_flow_collection_start(
     s.save_key(count, entries, frames);
     let r = stack_bracket(limits, s, entries);
     let Stacked::Got(i) = r else {
-        return refuse(48, s.place.mark);
+        return refuse_brief(48, s.place.mark);
     };
     if limits.levels <= s.depth {
-        return refuse(28, s.place.mark);
+        return refuse_brief(28, s.place.mark);
     }
     open_level(frames, s.depth, sequence);
     emit_bracket(
@@ -183,11 +175,11 @@ pub fn fetch_flow_collection_end(text: &[u8], sequence: bool, s: State, frames: 
     ensures { λ r. ⌜ FetchesFlow (now (text .entry)) (now (frames .entry)) (now (frames .exit)) s (λ t. fetch-flow-collection-end sequence t) (brief-fetched r) ⌝ }
 {
     if s.depth == 0 {
-        return refuse(47, s.place.mark);
+        return refuse_brief(47, s.place.mark);
     }
     let l = level(frames, s.depth);
     if l.sequence != sequence {
-        return refuse(47, s.place.mark);
+        return refuse_brief(47, s.place.mark);
     }
     if s.remove_key(frames) {
         return emit_bracket(
@@ -198,7 +190,7 @@ pub fn fetch_flow_collection_end(text: &[u8], sequence: bool, s: State, frames: 
             true,
         );
     }
-    refuse(41, s.place.mark)
+    refuse_brief(41, s.place.mark)
 }
 
 // ',' in flow.
@@ -211,5 +203,5 @@ pub fn fetch_flow_entry(text: &[u8], s: State, frames: &mut [u32]) -> Brief
         set_level(frames, s.depth, new_level(l.sequence));
         return emit_bracket(text, l.implicit, Kind::FlowEntry, s, false);
     }
-    refuse(41, s.place.mark)
+    refuse_brief(41, s.place.mark)
 }

@@ -151,5 +151,8 @@ fn twice_more(s: &[u8], at: usize, b: u8) -> bool
     requires { ⌜ CharAt (now s) at b 1 × (0 < b) × (b < 128) ⌝ }
     ensures { λ r. ⌜ r ≡ twice-more b (chars (drop at (now (s .entry)))) ⌝ }
 {
-    (byte(s, at + 1) == b) & (byte(s, at + 2) == b) & is_blank_or_breakz(look(s, at + 3))
+    if (byte(s, at + 1) == b) & (byte(s, at + 2) == b) {
+        return is_blank_or_breakz(look(s, at + 3));
+    }
+    false
 }

@@ -41,8 +41,10 @@ fn dash_or_question(text: &[u8], flow: bool, at: usize, found: Choice) -> Choice
     ensures { λ r. ⌜ r ≡ dash-or-question flow found (peek (chars (drop (at + 1) (now (text .entry)))) 0) ⌝ }
 {
     let n = look(text, at + 1);
-    let other = pick(flow & is_flow(n), Choice::Stray, Choice::AtPlain);
-    pick(is_blank_or_breakz(n), found, other)
+    if is_blank_or_breakz(n) {
+        return found;
+    }
+    pick(flow & is_flow(n), Choice::Stray, Choice::AtPlain)
 }
 
 // The token whose first character is c.

@@ -43,7 +43,7 @@ pub fits-got : (p : Place) {r : Reading} {l : Lexeme} → r ≡ Got l → Fits p
 fits-got p e h = rw e at h
 
 module _ (t : Place → State) (n : ℕ) (p : Place) {r : Reading} where
-  pub fetched-got : {l : Lexeme} → r ≡ Got l → fetched.Goes (t (behind-of p (l .next))) (closing-of n (l .token)) ≡ fetched-of t n p r
+  pub fetched-got : {l : Lexeme} → r ≡ Got l → fetched.Goes (closing-of n (l .token)) (t (behind-of p (l .next))) ≡ fetched-of t n p r
   unfolding fetched-of
   fetched-got e = rw e
 

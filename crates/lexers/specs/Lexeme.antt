@@ -61,7 +61,7 @@ Fits p (reading.Refused f) = Unit {0}
 
 -- by what was read from p on: a token behind n ends of blocks, and the state behind it; or a refusal
 unfoldable pub fetched-of : (Place → State) → ℕ → Place → Reading → Fetched
-fetched-of t n p (reading.Got l) = Goes (t (behind-of p (l .next))) (closing-of n (l .token))
+fetched-of t n p (reading.Got l) = Goes (closing-of n (l .token)) (t (behind-of p (l .next)))
 fetched-of t n p (reading.Refused f) = Refused f
 
 -- a fetcher that is not told the limits: whatever these are, it leaves the entries, and writes text behind the bytes used so far

@@ -86,7 +86,7 @@ fn fetched_quoted(r: Reading, s: State) -> Fetched
         Reading::Refused(f) => Fetched::Refused(f),
         Reading::Got(l) => {
             let t = s.moved(behind(s.place, l.next), false, false);
-            Fetched::Goes(t.adjacent_here(), closing(0, l.token))
+            Fetched::Goes(closing(0, l.token), t.adjacent_here())
         }
     }
 }
@@ -189,7 +189,7 @@ fn fetched_left(r: Reading, s: State, u: Unrolled) -> Fetched
         Reading::Got(l) => {
             let p = behind(s.place, l.next);
             let t = s.with_indents(u.indents).moved(p, true, false);
-            Fetched::Goes(t, closing(u.ended, l.token))
+            Fetched::Goes(closing(u.ended, l.token), t)
         }
     }
 }

@@ -72,26 +72,29 @@ marker-moves {rest} {p} k = moves-along (k .stands) 3 3 (marker-reach (p .mark) 
 
 -- what follows it
 
-module _ {text : List ℕ} {p : Place} {starts : Bool} where
-  pub after-start : starts ≡ true → Stands text p → Reaches text p (reached.To p) (after-marker starts (view text p))
-  unfolding after-marker seen-place
-  after-start e h = record { same = rw (e, after-marker); onward = (h, omega arith) }
+module _ {text : List ℕ} {p : Place} where
+  module _ {starts : Bool} where
+    pub after-start : starts ≡ true → Stands text p → Reaches text p (reached.To p) (after-marker starts (view text p))
+    unfolding after-marker seen-place
+    after-start e h = record { same = rw (e, after-marker); onward = (h, omega arith) }
 
-  module _ (e : starts ≡ false) where
-    pub after-refused : {f : Refusal} → Reaches text p (reached.Refused f) (blanks-and-comment (view text p))
-        → Reaches text p (reached.Refused f) (after-marker starts (view text p))
-    unfolding after-marker seen-place _>>=_
-    after-refused k = record { same = rw (e, after-marker, ← k .same); onward = tt }
+    pub after-end : {r : Reached} → starts ≡ false → Reaches text p r (after-marker false (view text p)) → Reaches text p r (after-marker starts (view text p))
+    after-end e k = rw e k
 
-    module _ {q : Place} (k : Reaches text p (reached.To q) (blanks-and-comment (view text p))) where
-      pub after-break : isBreakz (look (view text q)) ≡ true → Reaches text p (reached.To q) (after-marker starts (view text p))
-      unfolding after-marker seen-place _>>=_ need
-      after-break b = record { same = rw (e, after-marker, ← k .same, b); onward = k .onward }
+  pub after-refused : {f : Refusal} → Reaches text p (reached.Refused f) (blanks-and-comment (view text p))
+      → Reaches text p (reached.Refused f) (after-marker false (view text p))
+  unfolding after-marker seen-place _>>=_
+  after-refused k = record { same = rw (after-marker, ← k .same); onward = tt }
 
-      pub after-text : isBreakz (look (view text q)) ≡ false
-          → Reaches text p (reached.Refused (record { number = 49; mark = q .mark })) (after-marker starts (view text p))
-      unfolding after-marker seen-place _>>=_ need
-      after-text b = record { same = rw (e, after-marker, ← k .same, b); onward = tt }
+  module _ {q : Place} (k : Reaches text p (reached.To q) (blanks-and-comment (view text p))) where
+    pub after-break : isBreakz (look (view text q)) ≡ true → Reaches text p (reached.To q) (after-marker false (view text p))
+    unfolding after-marker seen-place _>>=_ need
+    after-break b = record { same = rw (after-marker, ← k .same, b); onward = k .onward }
+
+    pub after-text : isBreakz (look (view text q)) ≡ false
+        → Reaches text p (reached.Refused (record { number = 49; mark = q .mark })) (after-marker false (view text p))
+    unfolding after-marker seen-place _>>=_ need
+    after-text b = record { same = rw (after-marker, ← k .same, b); onward = tt }
 
 -- the whole
 

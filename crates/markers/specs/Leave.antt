@@ -48,7 +48,7 @@ Leaves entries frames fs s Required = (text : List ℕ) (count : ℕ) → leave-
 
 -- outside every block, on from p behind a token that follows their ends
 abbrev pub goes-left : State → Unrolled → Place → Bool → Bool → Token → Fetched
-goes-left s u p leads allowed t = Goes (s-moved (s-with-indents s (u .indents)) p leads allowed) (closing-of (u .ended) t)
+goes-left s u p leads allowed t = Goes (closing-of (u .ended) t) (s-moved (s-with-indents s (u .indents)) p leads allowed)
 
 -- the rest of a text from a place on, where a document marker stands
 pub record MarkerAt (rest : List ℕ) (p : Place) : Type 0 where

@@ -1,6 +1,7 @@
 // Document markers, byte order marks and the end of the text: each leaves all blocks.
 ghost use mathlib.Core.Path.{_≡_};
 ghost use Prim.Native.Nat.{_*_, _+_, _^_, _<_, _≤_};
+ghost use mathlib.Core.Bool.{false};
 ghost use lib.ListN.{length};
 ghost use Rattle.yaml_text.specs.Pick.{pick};
 ghost use Rattle.yaml_lexeme.specs.declared.Kind.the-variants as kind;
@@ -49,8 +50,8 @@ fn go_on(s: State, u: Unrolled, p: Place, leads: bool, allowed: bool, t: Token) 
     ensures { λ r. ⌜ r ≡ goes-left s u p leads allowed t ⌝ }
 {
     Fetched::Goes(
-        s.with_indents(u.indents).moved(p, leads, allowed),
         closing(u.ended, t),
+        s.with_indents(u.indents).moved(p, leads, allowed),
     )
 }
 
@@ -75,14 +76,11 @@ pub fn fetch_byte_order_mark(s: State, entries: &[u32], frames: &mut [u32]) -> F
     go_on(s, u, e, s.leads, true, token)
 }
 
-// What follows a marker on its line: `...` wants blanks or a comment to the line's end. 49: text.
-fn after_marker(text: &[u8], starts: bool, p: Place) -> Reached
+// What follows `...` on its line: blanks or a comment, to the line's end. 49: text.
+fn after_document_end(text: &[u8], p: Place) -> Reached
     requires { ⌜ Stands (now text) p ⌝ }
-    ensures { λ r. ⌜ Reaches (now (text .entry)) p r (after-marker starts (view (now (text .entry)) p)) ⌝ }
+    ensures { λ r. ⌜ Reaches (now (text .entry)) p r (after-marker false (view (now (text .entry)) p)) ⌝ }
 {
-    if starts {
-        return Reached::To(p);
-    }
     let r = blanks_and_comment(text, p);
     match r {
         Reached::Refused(_) => r,
@@ -128,17 +126,18 @@ pub fn fetch_document_indicator(
     let first = Place { at: 0, mark: m };
     let e = first.skip_n_non_blank(3);
     let end = e.mark;
-    let r = after_marker(text, starts, e);
+    let token = Token {
+        kind: marker_kind(starts),
+        start: m,
+        end: end,
+    };
+    if starts {
+        return go_on(s, u, behind(s.place, e), false, false, token);
+    }
+    let r = after_document_end(text, e);
     match r {
         Reached::Refused(f) => Fetched::Refused(f),
-        Reached::To(next) => {
-            let token = Token {
-                kind: marker_kind(starts),
-                start: m,
-                end: end,
-            };
-            go_on(s, u, behind(s.place, next), false, false, token)
-        }
+        Reached::To(next) => go_on(s, u, behind(s.place, next), false, false, token),
     }
 }
 

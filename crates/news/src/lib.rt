@@ -22,8 +22,8 @@ pub enum Opening {
 
 // What one lexeme says: so many blocks end, an empty token, the token. All of them at the token's start.
 pub struct Event {
-    pub note: Note,
     pub closed: u32,
+    pub note: Note,
     pub opening: Opening,
     pub token: Token,
 }

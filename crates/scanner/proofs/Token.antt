@@ -63,17 +63,17 @@ heard-refused used (refused n m) e = cc
 
 pub data Heard : Fetched → news.Event → Type 0 where
   ends : {e : news.Event} → Heard (fetched.Ends e) e
-  goes : {t : State} {e : news.Event} → Heard (fetched.Goes t e) e
+  goes : {t : State} {e : news.Event} → Heard (fetched.Goes e t) e
 
 module _ {r : Fetched} {e : news.Event} where
   pub heard-as : {x : Fetched} {f : news.Event} → r ≡ x → e ≡ f → Heard x f → Heard r e
   heard-as p q h = rw (p, q) h
 
   module _ {x : Fetched} (h : Heard r e) (same : x ≡ r) where
-    pub says-goes : {t : State} {f : news.Event} → x ≡ fetched.Goes t f → r ≡ fetched.Goes t e
+    pub says-goes : {t : State} {f : news.Event} → x ≡ fetched.Goes f t → r ≡ fetched.Goes e t
     says-goes q = by-event h (sym same ∙ q)
       where
-        by-event : {y : Fetched} {g f : news.Event} {t : State} → Heard y g → y ≡ fetched.Goes t f → y ≡ fetched.Goes t g
+        by-event : {y : Fetched} {g f : news.Event} {t : State} → Heard y g → y ≡ fetched.Goes f t → y ≡ fetched.Goes g t
         by-event ends p = let z : _≡_ {A = ℕ} 0 1 = cc in absurd (omega arith)
         by-event goes p = cc
 
@@ -147,7 +147,7 @@ module _ {limits : Limits} {text entries frames : List ℕ} {s : State} {n : Cou
         }
 
     pub token-goes : {r : Fetched} {l l' : List ℕ} {e : news.Event} {t : State} {m : Counts}
-        → Steps limits text entries frames es fs b b' (k .count) (k .used) s r → r ≡ fetched.Goes t e
+        → Steps limits text entries frames es fs b b' (k .count) (k .used) s r → r ≡ fetched.Goes e t
         → length es ≡ length entries → length fs ≡ length frames → l' ≡ put-news l (n .count) here ended e → m ≡ counted-of k e
         → Goes limits text es fs d n m l b l' b' t
     unfolding _>>=_ fetched-seen news-texts

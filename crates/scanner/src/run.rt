@@ -16,7 +16,9 @@ ghost use Rattle.scanner.specs.Run.{Comes, Fine, Takes, Turns, ending, n
 use choices::advance::Advanced;
 use choices::advance::to_next_token;
 use choices::choice::choice;
+use news::Opening;
 use sink::put_brief;
+use sink::put_entry;
 use sink::put_news;
 use sink::put_record;
 use states::Brief;
@@ -78,7 +80,17 @@ fn brief(
         Brief::Refused(f) => Turn::Over(Outcome::Stopped(f)),
         Brief::Goes(t, pair, token) => {
             put_brief(words, n.count, s.place.mark, ended, pair, token);
-            Turn::On(t, k.counting(brief_event(pair, token)))
+            Turn::On(
+                t,
+                k.counting(brief_event(pair, Opening::FlowMappingEnd, token)),
+            )
+        }
+        Brief::Enters(t, starts, token) => {
+            put_entry(words, n.count, s.place.mark, ended, starts, token);
+            Turn::On(
+                t,
+                k.counting(brief_event(starts, Opening::BlockSequenceStart, token)),
+            )
         }
     }
 }
@@ -106,12 +118,12 @@ fn lexeme(
             return Turn::Over(Outcome::Stopped(f));
         }
         Fetched::Ends(e) => e,
-        Fetched::Goes(_, e) => e,
+        Fetched::Goes(e, _) => e,
     };
     put_news(words, n.count, s.place.mark, ended, e);
     let m = k.counting(e);
     match r {
-        Fetched::Goes(t, _) => Turn::On(t, m),
+        Fetched::Goes(_, t) => Turn::On(t, m),
         _ => Turn::Over(Outcome::Scanned(m)),
     }
 }

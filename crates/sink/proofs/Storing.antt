@@ -16,6 +16,7 @@ use Rattle.news.specs.declared.Note.{Note}
 use Rattle.news.specs.declared.Opening.{Opening}
 use Rattle.news.specs.declared.Opening.the-variants as opening
 use Rattle.states.specs.Brief.{brief-event}
+use Rattle.states.specs.Laid.{opening-if}
 use Rattle.states.specs.Say.{empty-of}
 use Rattle.sink.specs.Tokens.{end-tokens, event-tokens, opening-tokens}
 use Rattle.sink.specs.Kinds.{five, kind-place, number-place}
@@ -84,10 +85,10 @@ pub news-put : (e : Event) (here : Mark) (ended : ℕ) (l a b o : List ℕ) (n k
 news-put e here ended l a b o n k p q i r = r ∙ rw (i, q, p)
 
 -- a brief event has no note and ends no block
-pub brief-put : (pair : Bool) (t : Token) (here : Mark) (ended : ℕ) (l a b o : List ℕ) (n k j : ℕ) → k ≡ n + ended → a ≡ put-list l n (end-tokens ended here)
-    → j ≡ k + length (opening-tokens (brief-event pair t .opening) (t .start)) → b ≡ put-list a k (opening-tokens (brief-event pair t .opening) (t .start))
-    → o ≡ put-record b j (record-of t) → o ≡ put-news l n here ended (brief-event pair t)
+pub brief-put : (led : Bool) (x : Opening) (t : Token) (here : Mark) (ended : ℕ) (l a b o : List ℕ) (n k j : ℕ) → k ≡ n + ended → a ≡ put-list l n (end-tokens ended here)
+    → j ≡ k + length (opening-tokens (opening-if led x) (t .start)) → b ≡ put-list a k (opening-tokens (opening-if led x) (t .start))
+    → o ≡ put-record b j (record-of t) → o ≡ put-news l n here ended (brief-event led x t)
 unfolding put-list note-at
-brief-put pair t here ended l a b o n k j p q r s u =
+brief-put led x t here ended l a b o n k j p q r s u =
     let z : k ≡ k + 0 = omega arith in
-    news-put (brief-event pair t) here ended l a a o n k p q refl (event-put (brief-event pair t) a a b o k k j z refl r s u)
+    news-put (brief-event led x t) here ended l a a o n k p q refl (event-put (brief-event led x t) a a b o k k j z refl r s u)

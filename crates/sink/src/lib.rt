@@ -99,13 +99,13 @@ fn put_opening(words: &mut [u32], n: usize, o: Opening, m: Mark) -> usize
     }
 }
 
-// Stores the end of a pair, if there is one, in slot n; the slot behind it.
-fn put_pair_end(words: &mut [u32], n: usize, pair: bool, m: Mark) -> usize
+// The same where a test holds.
+fn put_led(words: &mut [u32], n: usize, led: bool, o: Opening, m: Mark) -> usize
     requires { ⌜ n < 2 ^ 41 ⌝ }
-    ensures { λ r. ⌜ (r ≡ n + length (opening-tokens (opening-if pair opening.FlowMappingEnd) m)) × (now (words .exit) ≡ put-list (now (words .entry)) n (opening-tokens (opening-if pair opening.FlowMappingEnd) m)) ⌝ }
+    ensures { λ r. ⌜ (r ≡ n + length (opening-tokens (opening-if led o) m)) × (now (words .exit) ≡ put-list (now (words .entry)) n (opening-tokens (opening-if led o) m)) ⌝ }
 {
-    if pair {
-        return put_empty_token(words, n, Kind::FlowMappingEnd, m);
+    if led {
+        return put_opening(words, n, o, m);
     }
     n
 }
@@ -135,10 +135,19 @@ pub fn put_news(words: &mut [u32], n: u32, here: Mark, ended: u32, e: Event)
 
 // The same of one token, behind the end of an implicit pair or not.
 pub fn put_brief(words: &mut [u32], n: u32, here: Mark, ended: u32, pair: bool, t: Token)
-    ensures { λ _. ⌜ now (words .exit) ≡ put-news (now (words .entry)) n here ended (brief-event pair t) ⌝ }
+    ensures { λ _. ⌜ now (words .exit) ≡ put-news (now (words .entry)) n here ended (brief-event pair opening.FlowMappingEnd t) ⌝ }
 {
     let k = put_ends(words, n as usize, ended, here);
-    let j = put_pair_end(words, k, pair, t.start);
+    let j = put_led(words, k, pair, Opening::FlowMappingEnd, t.start);
+    put_record(words, j, t)
+}
+
+// The same of '-', behind the start of its block or not. Called in one place each, both are compiled into the loop.
+pub fn put_entry(words: &mut [u32], n: u32, here: Mark, ended: u32, starts: bool, t: Token)
+    ensures { λ _. ⌜ now (words .exit) ≡ put-news (now (words .entry)) n here ended (brief-event starts opening.BlockSequenceStart t) ⌝ }
+{
+    let k = put_ends(words, n as usize, ended, here);
+    let j = put_led(words, k, starts, Opening::BlockSequenceStart, t.start);
     put_record(words, j, t)
 }
 

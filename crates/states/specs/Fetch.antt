@@ -36,7 +36,7 @@ pub record Went (limits : Limits) (text entries frames : List ℕ) (s t : State)
   pub closed : e .closed ≤ 255
 
 abbrev pub After : Limits → List ℕ → List ℕ → List ℕ → State → Fetched → Type 0
-After limits text entries frames s (Goes t e) = Went limits text entries frames s t e
+After limits text entries frames s (Goes e t) = Went limits text entries frames s t e
 After limits text entries frames s (Ends e) = (e .closed ≤ 255) × (text-size (e .token .kind) ≡ 0)
 After limits text entries frames s (Refused f) = Unit {0}
 

@@ -39,13 +39,13 @@ module _ {limits : Limits} {text frames es fs : List ℕ} {count used : ℕ} {s 
   module _ {e : Event} (hs : List definition.Event) (said : said-of (key-mark (key-of frames (s .depth))) e ≡ laid-events used hs) where
     -- on with the state t, as the definition with x
     pub fetch-goes : {t : State} (x : definition.State) → d ≡ emit hs x → state-of text es fs count t ≡ x → Went limits text es fs s t e
-        → Fetches limits text frames es fs count used s d (Goes t e)
+        → Fetches limits text frames es fs count used s d (Goes e t)
     unfolding fetched-seen laid-news
     fetch-goes x i same w =
         record { same = rw (i, said, ← same, puts-said (key-mark (key-of frames (s .depth))) e used hs said); after = w }
 
     pub fetch-quiet : {t : State} (x : definition.State) → d ≡ emit hs x → state-of text es fs count t ≡ x → Went limits text es fs s t e
-        → text-size (e .token .kind) ≡ 0 → FetchesQuiet limits text frames es fs count used s d (Goes t e)
+        → text-size (e .token .kind) ≡ 0 → FetchesQuiet limits text frames es fs count used s d (Goes e t)
     unfolding news-texts
     fetch-quiet x i same w z =
         record { fetches = fetch-goes x i same w; quiet = rw i (no-bytes-said (key-mark (key-of frames (s .depth))) e used hs said z) }

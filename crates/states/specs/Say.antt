@@ -103,7 +103,7 @@ pub data Heard : Type 0 where
 
 -- from a state of so many tokens, with the candidate at m
 unfoldable pub fetched-seen : List ℕ → List ℕ → List ℕ → ℕ → Mark → Fetched → Read Heard
-fetched-seen text entries frames count m (fetched.Goes s e) = got (goes-on (said-of m e) (state-of text entries frames (count + event-size e) s))
+fetched-seen text entries frames count m (fetched.Goes e s) = got (goes-on (said-of m e) (state-of text entries frames (count + event-size e) s))
 fetched-seen text entries frames count m (fetched.Ends e) = got (ends-with (said-of m e))
 fetched-seen text entries frames count m (fetched.Refused f) = refused (f .number) (f .mark)
 

@@ -7,9 +7,9 @@ ghost use Rattle.reading.specs.Reading.{text-size};
 ghost use Rattle.states.specs.State.{behind-of, required-of, s-adjacent-here, s-begin, s-moved, s-with-depth, s-with-indents};
 ghost use Rattle.states.specs.Brief.{brief-event};
 ghost use Rattle.states.specs.Laid.{opening-if};
-ghost use Rattle.news.specs.declared.Opening.the-variants as opening;
 ghost use Rattle.states.specs.Key.{Lapses, Removes, Saves};
 ghost use Rattle.states.specs.Say.{Countable, closing-of, counted-of, note-size, opening-size};
+ghost use Rattle.states.specs.declared.Brief.the-variants as brief;
 ghost use Rattle.states.specs.declared.Fetched.the-variants as fetched;
 use chars::mark::Place;
 use news::Event;
@@ -29,7 +29,6 @@ use yaml_text::Mark;
 use yaml_text::Refusal;
 
 pub struct State {
-    pub place: Place,
     // Only blanks stand between the line's start and here.
     pub leads: bool,
     // A simple key is allowed.
@@ -37,6 +36,7 @@ pub struct State {
     // Index + 1 directly after a quoted scalar's or closing bracket's span; 0: none.
     pub adjacent: u32,
     pub indents: Indents,
+    pub place: Place,
     // The flow level. Its candidate and its data are in the frame of that number.
     pub depth: usize,
 }
@@ -48,16 +48,18 @@ pub struct Counts {
     pub used: u32,
 }
 
-// A state with what was said; the same at the end of the text; or a refusal.
+// What was said, with the state behind it; the same at the end of the text; or a refusal.
 pub enum Fetched {
-    Goes(State, Event),
+    Goes(Event, State),
     Ends(Event),
     Refused(Refusal),
 }
 
-// What says one token, behind the end of an implicit pair or not, and the state behind it; or a refusal.
+// What says one token, and the state behind it: a token behind the end of an implicit pair or not; '-' behind the start of
+// its block or not. Or a refusal.
 pub enum Brief {
     Goes(State, bool, Token),
+    Enters(State, bool, Token),
     Refused(Refusal),
 }
 
@@ -65,6 +67,15 @@ pub fn refuse(number: u32, mark: Mark) -> Fetched
     ensures { λ r. ⌜ r ≡ fetched.Refused (record { number = number; mark = mark }) ⌝ }
 {
     Fetched::Refused(Refusal {
+        number: number,
+        mark: mark,
+    })
+}
+
+pub fn refuse_brief(number: u32, mark: Mark) -> Brief
+    ensures { λ r. ⌜ r ≡ brief.Refused (record { number = number; mark = mark }) ⌝ }
+{
+    Brief::Refused(Refusal {
         number: number,
         mark: mark,
     })
@@ -259,23 +270,23 @@ impl State {
     }
 }
 
-fn pair_end(pair: bool) -> Opening
-    ensures { λ r. ⌜ r ≡ opening-if pair opening.FlowMappingEnd ⌝ }
+pub fn opening_if(b: bool, o: Opening) -> Opening
+    ensures { λ r. ⌜ r ≡ opening-if b o ⌝ }
 {
-    if pair {
-        return Opening::FlowMappingEnd;
+    if b {
+        return o;
     }
     Opening::Nothing
 }
 
-// What is said of one token, behind the end of an implicit pair or not.
-pub fn brief_event(pair: bool, t: Token) -> Event
-    ensures { λ r. ⌜ r ≡ brief-event pair t ⌝ }
+// What is said of one token, behind an empty one or not.
+pub fn brief_event(led: bool, o: Opening, t: Token) -> Event
+    ensures { λ r. ⌜ r ≡ brief-event led o t ⌝ }
 {
     Event {
         note: Note::Nothing,
         closed: 0,
-        opening: pair_end(pair),
+        opening: opening_if(led, o),
         token: t,
     }
 }
@@ -307,10 +318,10 @@ pub fn behind(p: Place, next: Place) -> Place
 // One token, and on from behind it.
 pub fn emit_lexeme(s: State, l: Lexeme, leads: bool, allowed: bool) -> Fetched
     requires { ⌜ s .place .at + l .next .at < 2 ^ 63 ⌝ }
-    ensures { λ r. ⌜ r ≡ fetched.Goes (s-moved s (behind-of (s .place) (l .next)) leads allowed) (closing-of 0 (l .token)) ⌝ }
+    ensures { λ r. ⌜ r ≡ fetched.Goes (closing-of 0 (l .token)) (s-moved s (behind-of (s .place) (l .next)) leads allowed) ⌝ }
 {
     Fetched::Goes(
-        s.moved(behind(s.place, l.next), leads, allowed),
         closing(0, l.token),
+        s.moved(behind(s.place, l.next), leads, allowed),
     )
 }

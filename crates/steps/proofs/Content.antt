@@ -27,7 +27,7 @@ use Rattle.steps.proofs.Arms.{is-rest, rest-at, stood}
 
 -- what no other arm takes
 abbrev pub texts : List ℕ
-texts = 1 ∷ 6 ∷ 7 ∷ 8 ∷ 12 ∷ 13 ∷ 14 ∷ 15 ∷ 16 ∷ []
+texts = 1 ∷ 6 ∷ 7 ∷ 8 ∷ 9 ∷ 12 ∷ 13 ∷ 14 ∷ 15 ∷ 16 ∷ []
 
 -- its first byte
 first-byte : (text : List ℕ) (s : State) → Low (peek (ahead text s) 0) → getD (rest-at text s) 0 0 ≡ peek (ahead text s) 0
@@ -47,6 +47,7 @@ module _ {limits : Limits} {text entries frames : List ℕ} {used : ℕ} {s : St
   content (AtBlock literal) k h n = lit k (stood k)
   content (AtQuoted single) k h n = lit k (stood k)
   content AtPlain k h n = true-false n
+  content AtDash k h n = true-false n
   content AtComma k h n = true-false n
   content (Opens sequence) k h n = true-false n
   content (Closes sequence) k h n = true-false n
@@ -55,7 +56,6 @@ module _ {limits : Limits} {text entries frames : List ℕ} {used : ℕ} {s : St
   content BelowIndent k h n = absurd (miss texts 3 tt h)
   content Stray k h n = absurd (miss texts 4 tt h)
   content (AtMarker starts) k h n = absurd (miss texts 5 tt h)
-  content AtDash k h n = absurd (miss texts 9 tt h)
   content AtQuestion k h n = absurd (miss texts 10 tt h)
   content AtColon k h n = absurd (miss texts 11 tt h)
 
@@ -110,11 +110,12 @@ fetched-as e f = rw e f
 
 -- what no arm of the brief ones takes
 abbrev pub no-brief : List ℕ
-no-brief = 0 ∷ 1 ∷ 2 ∷ 3 ∷ 4 ∷ 5 ∷ 8 ∷ 9 ∷ 10 ∷ 11 ∷ 12 ∷ 14 ∷ 15 ∷ 16 ∷ []
+no-brief = 0 ∷ 1 ∷ 2 ∷ 3 ∷ 4 ∷ 5 ∷ 8 ∷ 10 ∷ 11 ∷ 12 ∷ 14 ∷ 15 ∷ 16 ∷ []
 
 pub only-comma : (c : Choice) → is-brief c ≡ true → OneOf no-brief (tagOf the-type c) → c ≡ AtComma
 only-comma AtComma b h = refl
 only-comma AtPlain b h = absurd (miss no-brief 13 tt h)
+only-comma AtDash b h = absurd (miss no-brief 9 tt h)
 only-comma (Opens sequence) b h = absurd (miss no-brief 6 tt h)
 only-comma (Closes sequence) b h = absurd (miss no-brief 7 tt h)
 only-comma AtDirective b h = true-false (sym b)
@@ -127,16 +128,16 @@ only-comma AtByteOrderMark b h = true-false (sym b)
 only-comma BelowIndent b h = true-false (sym b)
 only-comma Stray b h = true-false (sym b)
 only-comma (AtMarker starts) b h = true-false (sym b)
-only-comma AtDash b h = true-false (sym b)
 only-comma AtQuestion b h = true-false (sym b)
 only-comma AtColon b h = true-false (sym b)
 
 -- what is not brief
 abbrev pub others : List ℕ
-others = 0 ∷ 1 ∷ 2 ∷ 3 ∷ 4 ∷ 5 ∷ 9 ∷ 10 ∷ 11 ∷ 12 ∷ 14 ∷ 15 ∷ 16 ∷ []
+others = 0 ∷ 1 ∷ 2 ∷ 3 ∷ 4 ∷ 5 ∷ 10 ∷ 11 ∷ 12 ∷ 14 ∷ 15 ∷ 16 ∷ []
 
 pub not-brief : (c : Choice) → OneOf others (tagOf the-type c) → false ≡ is-brief c
 not-brief AtPlain h = absurd (miss others 13 tt h)
+not-brief AtDash h = absurd (miss others 9 tt h)
 not-brief (Opens sequence) h = absurd (miss others 6 tt h)
 not-brief (Closes sequence) h = absurd (miss others 7 tt h)
 not-brief AtComma h = absurd (miss others 8 tt h)
@@ -150,6 +151,5 @@ not-brief AtByteOrderMark h = refl
 not-brief BelowIndent h = refl
 not-brief Stray h = refl
 not-brief (AtMarker starts) h = refl
-not-brief AtDash h = refl
 not-brief AtQuestion h = refl
 not-brief AtColon h = refl

@@ -30,9 +30,10 @@ pub record Chosen (limits : Limits) (text entries frames : List ℕ) (used : ℕ
   pub room : used < 2 ^ 31
   pub says : Says text s (λ t. choice t) c
 
--- plain scalars, brackets and ','
+-- plain scalars, '-', brackets and ','
 abbrev pub is-brief : Choice → Bool
 is-brief AtPlain = true
+is-brief AtDash = true
 is-brief (Opens sequence) = true
 is-brief (Closes sequence) = true
 is-brief AtComma = true
@@ -46,7 +47,6 @@ is-brief AtByteOrderMark = false
 is-brief BelowIndent = false
 is-brief Stray = false
 is-brief (AtMarker starts) = false
-is-brief AtDash = false
 is-brief AtQuestion = false
 is-brief AtColon = false
 

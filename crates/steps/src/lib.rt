@@ -71,19 +71,19 @@ pub fn fetch_other(
         Choice::AtMarker(starts) => {
             fetch_document_indicator(&text[at..], starts, s, entries, frames)
         }
-        Choice::AtDash => fetch_block_entry(limits, s, entries, frames),
         Choice::AtQuestion => fetch_key(limits, s, entries, frames),
         Choice::AtColon => fetch_value(limits, s, entries, frames),
         _ => fetch_content(&text[at..], c, s, n, entries, frames, bytes),
     }
 }
 
-// Plain scalars, brackets and ',' are brief: they say one token, behind the end of a pair or not.
+// Plain scalars, '-', brackets and ',' are brief: they say one token, behind an empty one or not.
 pub fn is_brief(c: Choice) -> bool
     ensures { λ r. ⌜ r ≡ is-brief c ⌝ }
 {
     match c {
         Choice::AtPlain => true,
+        Choice::AtDash => true,
         Choice::Opens(_) => true,
         Choice::Closes(_) => true,
         Choice::AtComma => true,
@@ -108,6 +108,7 @@ pub fn fetch_brief(
     let at = s.place.at;
     match c {
         Choice::AtPlain => fetch_plain_scalar(&text[at..], s, n, entries, frames, bytes),
+        Choice::AtDash => fetch_block_entry(limits, s, entries, frames),
         Choice::Opens(sequence) => {
             fetch_flow_collection_start(limits, &text[at..], sequence, s, n.count, entries, frames)
         }

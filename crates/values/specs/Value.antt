@@ -21,6 +21,7 @@ use Rattle.chars.specs.View.{past}
 use Rattle.stacks.specs.declared.indent.Rolled.{Rolled}
 use Rattle.stacks.specs.Frame.{SetsLevel, level-of}
 use Rattle.stacks.specs.Indent.{Low, LowRolled, indents-seen, rolled-seen}
+use Rattle.reading.specs.declared.Lexeme.{Lexeme}
 use Rattle.news.specs.declared.Event.{Event}
 use Rattle.news.specs.declared.Note.{Note}
 use Rattle.news.specs.declared.Note.the-variants as note
@@ -35,12 +36,15 @@ use Rattle.values.specs.declared.Opened.{Opened}
 use Rattle.values.specs.declared.Opened.the-variants as opened
 
 -- the one character at a place
+abbrev pub lexeme-one : Kind → Place → Lexeme
+lexeme-one k p = record { token = record { kind = k; start = p .mark; end = along (p .mark) }; next = past p 1 (along (p .mark)) }
+
 abbrev pub event-one : Note → Opening → Kind → Place → Event
-event-one n o k p = record { note = n; closed = 0; opening = o; token = record { kind = k; start = p .mark; end = along (p .mark) } }
+event-one n o k p = record { note = n; closed = 0; opening = o; token = lexeme-one k p .token }
 
 -- on from behind it
 abbrev pub goes-one : State → Note → Opening → Kind → Bool → Fetched
-goes-one s n o k allowed = fetched.Goes (s-moved s (past (s .place) 1 (along (s .place .mark))) false allowed) (event-one n o k (s .place))
+goes-one s n o k allowed = fetched.Goes (event-one n o k (s .place)) (s-moved s (lexeme-one k (s .place) .next) false allowed)
 
 -- '?' came in this entry
 abbrev pub questioned-of : Level → Level

@@ -7,13 +7,15 @@ ghost use Rattle.yaml_scan.specs.Value.{fetch-block-entry, fetch-key, fetch-val
 ghost use Rattle.chars.specs.View.{Small};
 ghost use Rattle.stacks.specs.Frame.{SetsLevel, key-of, level-of};
 ghost use Rattle.states.specs.State.{key-mark};
-ghost use Rattle.states.specs.Laid.{opening-if};
+ghost use Rattle.states.specs.Brief.{brief-fetched};
 ghost use Rattle.states.specs.Fetch.{FetchesOne, Ready};
-ghost use Rattle.values.specs.Value.{Opens, Rollable, RollsAt, SeesColon, goes-one, note-by, questioned-of, start-by};
+ghost use Rattle.values.specs.Value.{Opens, Rollable, RollsAt, SeesColon, goes-one, lexeme-one, note-by, questioned-of, start-by};
 ghost use Rattle.values.specs.declared.Opened.the-variants as opened;
+use chars::mark::Place;
 use news::Event;
 use news::Note;
 use news::Opening;
+use reading::Lexeme;
 use stacks::frame::clear_key;
 use stacks::frame::key;
 use stacks::frame::level;
@@ -21,9 +23,12 @@ use stacks::frame::set_level;
 use stacks::indent::Indents;
 use stacks::indent::Rolled;
 use stacks::indent::roll;
+use states::Brief;
 use states::Fetched;
 use states::State;
+use states::opening_if;
 use states::refuse;
+use states::refuse_brief;
 use yaml_lexeme::Kind;
 use yaml_lexeme::Token;
 use yaml_scan::Candidate;
@@ -44,36 +49,38 @@ fn roll_at(limits: Limits, m: Mark, s: State, entries: &mut [u32]) -> Rolled
     roll(entries, limits.entries, m.col + 1, i)
 }
 
-fn opening_if(b: bool, o: Opening) -> Opening
-    ensures { λ r. ⌜ r ≡ opening-if b o ⌝ }
+// The one character here.
+fn one_character(p: Place, kind: Kind) -> Lexeme
+    requires { ⌜ Small p ⌝ }
+    ensures { λ r. ⌜ r ≡ lexeme-one kind p ⌝ }
 {
-    if b {
-        return o;
+    let start = p.mark;
+    let q = p.skip_blank();
+    let end = q.mark;
+    Lexeme {
+        token: Token {
+            kind: kind,
+            start: start,
+            end: end,
+        },
+        next: q,
     }
-    Opening::Nothing
 }
 
-// The one character here: on from behind it.
+// On from behind it.
 fn emit_indicator(s: State, note: Note, opening: Opening, kind: Kind, allowed: bool) -> Fetched
     requires { ⌜ Small (s .place) ⌝ }
     ensures { λ r. ⌜ r ≡ goes-one s note opening kind allowed ⌝ }
 {
-    let p = s.place;
-    let start = p.mark;
-    let q = p.skip_blank();
-    let end = q.mark;
-    let t = Token {
-        kind: kind,
-        start: start,
-        end: end,
-    };
+    let l = one_character(s.place, kind);
+    let t = l.token;
     let e = Event {
         note: note,
         closed: 0,
         opening: opening,
         token: t,
     };
-    Fetched::Goes(s.moved(q, false, allowed), e)
+    Fetched::Goes(e, s.moved(l.next, false, allowed))
 }
 
 // Whether a block starts, and the indents; or a refusal.
@@ -108,30 +115,20 @@ fn open_block(limits: Limits, s: State, entries: &mut [u32], frames: &mut [u32])
 }
 
 // '-'. 46: in flow, or no simple key is allowed.
-pub fn fetch_block_entry(
-    limits: Limits,
-    s: State,
-    entries: &mut [u32],
-    frames: &mut [u32],
-) -> Fetched
+pub fn fetch_block_entry(limits: Limits, s: State, entries: &mut [u32], frames: &mut [u32]) -> Brief
     requires { ⌜ Ready limits (now entries) (now frames) s ⌝ }
-    ensures { λ r. ⌜ FetchesOne limits (now (entries .entry)) (now (frames .entry)) (now (entries .exit)) (now (frames .exit)) s (λ t. fetch-block-entry limits t) r ⌝ }
+    ensures { λ r. ⌜ FetchesOne limits (now (entries .entry)) (now (frames .entry)) (now (entries .exit)) (now (frames .exit)) s (λ t. fetch-block-entry limits t) (brief-fetched r) ⌝ }
 {
     if (0 < s.depth) | !s.allowed {
-        return refuse(46, s.place.mark);
+        return refuse_brief(46, s.place.mark);
     }
     let o = open_block(limits, s, entries, frames);
     match o {
-        Opened::Refused(f) => Fetched::Refused(f),
+        Opened::Refused(f) => Brief::Refused(f),
         Opened::Got(starts, i) => {
-            let start = opening_if(starts, Opening::BlockSequenceStart);
-            emit_indicator(
-                s.with_indents(i),
-                Note::Nothing,
-                start,
-                Kind::BlockEntry,
-                true,
-            )
+            let l = one_character(s.place, Kind::BlockEntry);
+            let t = l.token;
+            Brief::Enters(s.with_indents(i).moved(l.next, false, true), starts, t)
         }
     }
 }

@@ -23,19 +23,19 @@ top c = c .before .before
 abbrev kind : tie.After-remove-key → tie.Else2
 kind c = c .before .before
 
-refuse-requires : tie.Need-refuse-requires
-refuse-requires c κs = search needs
+refuse-brief-requires : tie.Need-refuse-brief-requires
+refuse-brief-requires c κs = search needs
 
 returns : tie.Need-returns
 returns c = λ limits entries count ready text used q h.
     let a = c .before .before .before .before .before .args in
-    rw (c .refuse .ensures) (fetch-refused (end-none (a .sequence) text entries (now (a .frames)) count (a .s) (c .before .if1 .taken)))
+    rw (c .refuse-brief .ensures) (fetch-refused (end-none (a .sequence) text entries (now (a .frames)) count (a .s) (c .before .if1 .taken)))
 
 level-requires : tie.Need-level-requires
 level-requires c κs = search needs
 
-refuse-requires-2 : tie.Need-refuse-requires-2
-refuse-requires-2 c κs = search needs
+refuse-brief-requires-2 : tie.Need-refuse-brief-requires-2
+refuse-brief-requires-2 c κs = search needs
 
 same-length : tie.Need-same-length
 same-length c = search needs
@@ -44,7 +44,7 @@ returns-2 : tie.Need-returns-2
 returns-2 c = λ limits entries count ready text used q h.
     let l = c .before .before .before in
     let a = start l .args in
-    rw (c .refuse2 .ensures)
+    rw (c .refuse-brief2 .ensures)
     (fetch-refused (end-other (a .sequence) text entries (now (a .frames)) count (a .s) (deep l .if1 .left) (l .level .ensures) (c .before .if2 .taken)))
 
 remove-key-requires : tie.Need-remove-key-requires
@@ -78,8 +78,8 @@ returns-3 c = λ limits entries count ready text used q h.
     (c .before .before .before .closing-kind .ensures) (closes (a .sequence))
     (c .before .with-depth .ensures) refl q h (ready .low) (omega (arith, ready .deep)) (k .remove-key .ensures .low (ready .keys))
 
-refuse-requires-3 : tie.Need-refuse-requires-3
-refuse-requires-3 c κs = search needs
+refuse-brief-requires-3 : tie.Need-refuse-brief-requires-3
+refuse-brief-requires-3 c κs = search needs
 
 same-length-3 : tie.Need-same-length-3
 same-length-3 c = search needs
@@ -90,7 +90,7 @@ returns-4 c = λ limits entries count ready text used q h.
     let m = kind k in
     let l = top m in
     let a = start l .args in
-    rw (c .refuse3 .ensures)
+    rw (c .refuse-brief3 .ensures)
     (fetch-refused (end-required (a .sequence) text entries (now (a .frames)) count (a .s)
     (deep l .if1 .left) (l .level .ensures) (m .if2 .left) (k .remove-key .ensures) (c .before .if3 .left)))
 
@@ -98,10 +98,10 @@ pub fetch-flow-collection-end-spec : {M : Type 1} → statement M
 fetch-flow-collection-end-spec =
     tie.close
     (tie.spec
-    refuse-requires
+    refuse-brief-requires
     returns
     level-requires
-    refuse-requires-2
+    refuse-brief-requires-2
     same-length
     returns-2
     remove-key-requires
@@ -111,6 +111,6 @@ fetch-flow-collection-end-spec =
     emit-bracket-requires
     same-length-2
     returns-3
-    refuse-requires-3
+    refuse-brief-requires-3
     same-length-3
     returns-4)

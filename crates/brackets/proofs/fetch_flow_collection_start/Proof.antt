@@ -41,8 +41,8 @@ enum-known-r c = search needs
 enum-told : tie.Need-enum-told
 enum-told c = search needs
 
-refuse-requires : tie.Need-refuse-requires
-refuse-requires c κs = search needs
+refuse-brief-requires : tie.Need-refuse-brief-requires
+refuse-brief-requires c κs = search needs
 
 same-length : tie.Need-same-length
 same-length c = search needs
@@ -54,11 +54,11 @@ returns : tie.Need-returns
 returns c = λ text used q h.
     let w = c .before .before .before .before .before in
     let k = save w in
-    rw (c .refuse .ensures)
+    rw (c .refuse-brief .ensures)
     (fetch-refused (start-full (start k .args .sequence) text (k .save-key .ensures) (w .stack-bracket .ensures) (c .before .enum-told .given .1)))
 
-refuse-requires-2 : tie.Need-refuse-requires-2
-refuse-requires-2 c κs = search needs
+refuse-brief-requires-2 : tie.Need-refuse-brief-requires-2
+refuse-brief-requires-2 c κs = search needs
 
 same-length-3 : tie.Need-same-length-3
 same-length-3 c = search needs
@@ -71,7 +71,7 @@ returns-2 c = λ text used q h.
     let i = c .before .before .before .before .before in
     let w = stack i in
     let k = save w in
-    rw (c .refuse2 .ensures)
+    rw (c .refuse-brief2 .ensures)
     (fetch-refused (start-deep (start k .args .sequence) text (k .save-key .ensures) (w .stack-bracket .ensures) (i .r .given .1) (c .before .if1 .taken)))
 
 open-level-requires : tie.Need-open-level-requires
@@ -125,11 +125,11 @@ fetch-flow-collection-start-spec =
     stack-bracket-requires
     enum-known-r
     enum-told
-    refuse-requires
+    refuse-brief-requires
     same-length
     same-length-2
     returns
-    refuse-requires-2
+    refuse-brief-requires-2
     same-length-3
     same-length-4
     returns-2

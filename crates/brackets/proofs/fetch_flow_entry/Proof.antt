@@ -43,8 +43,8 @@ returns c = λ limits entries count ready text used q h.
     (c .emit-bracket .ensures) refl entry refl refl q h (ready .low) (ready .deep)
     (low-level (set .set-level .ensures) (k .remove-key .ensures .low (ready .keys)))
 
-refuse-requires : tie.Need-refuse-requires
-refuse-requires c κs = search needs
+refuse-brief-requires : tie.Need-refuse-brief-requires
+refuse-brief-requires c κs = search needs
 
 same-length-2 : tie.Need-same-length-2
 same-length-2 c = search needs
@@ -52,7 +52,7 @@ same-length-2 c = search needs
 returns-2 : tie.Need-returns-2
 returns-2 c = λ limits entries count ready text used q h.
     let k = c .before .before .before .before in
-    rw (c .refuse .ensures) (fetch-refused (entry-required text entries count (k .remove-key .ensures) (c .before .if1 .left)))
+    rw (c .refuse-brief .ensures) (fetch-refused (entry-required text entries count (k .remove-key .ensures) (c .before .if1 .left)))
 
 pub fetch-flow-entry-spec : {M : Type 1} → statement M
 fetch-flow-entry-spec =
@@ -65,6 +65,6 @@ fetch-flow-entry-spec =
     emit-bracket-requires
     same-length
     returns
-    refuse-requires
+    refuse-brief-requires
     same-length-2
     returns-2)

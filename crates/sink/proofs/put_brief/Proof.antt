@@ -1,7 +1,8 @@
 use native.Mathlib.Omega.{arith}
 use denote.Ref.{now}
 use borrow.Author.Needs.{needs}
-use Rattle.states.specs.Brief.{brief-event}
+use Rattle.news.specs.declared.Opening.the-variants as opening
+use Rattle.states.specs.Laid.{opening-if}
 use Rattle.sink.proofs.Storing.{brief-put, opens-few}
 use Rattle.sink.proofs.put_brief.Statement.{statement}
 use Rattle.sink.proofs.put_brief.Tie as tie
@@ -9,13 +10,13 @@ use Rattle.sink.proofs.put_brief.Tie as tie
 put-ends-requires : tie.Need-put-ends-requires
 put-ends-requires c κs = search needs
 
-put-pair-end-requires : tie.Need-put-pair-end-requires
-put-pair-end-requires c κs = search needs
+put-led-requires : tie.Need-put-led-requires
+put-led-requires c κs = search needs
 
 put-record-requires : tie.Need-put-record-requires
 put-record-requires c κs =
     let a = c .before .before .before .before .before .before .before .before .before .before .args in
-    omega (arith, c .before .before .before .put-pair-end .ensures .0, opens-few (brief-event (a .pair) (a .t) .opening) (a .t .start))
+    omega (arith, c .before .before .before .put-led .ensures .0, opens-few (opening-if (a .pair) opening.FlowMappingEnd) (a .t .start))
 
 same-length : tie.Need-same-length
 same-length c = search needs
@@ -25,10 +26,10 @@ returns c =
     let paired = c .before .before .before .before .before .before in
     let ends = paired .before .before .before .before in
     let a = ends .before .before .before .args in
-    brief-put (a .pair) (a .t) (a .here) (a .ended) (now (a .words)) _ _ _ (a .n) _ _ (ends .put-ends .ensures .0) (ends .put-ends .ensures .1)
-    (paired .put-pair-end .ensures .0) (paired .put-pair-end .ensures .1) (c .before .before .put-record .ensures)
+    brief-put (a .pair) opening.FlowMappingEnd (a .t) (a .here) (a .ended) (now (a .words)) _ _ _ (a .n) _ _ (ends .put-ends .ensures .0) (ends .put-ends .ensures .1)
+    (paired .put-led .ensures .0) (paired .put-led .ensures .1) (c .before .before .put-record .ensures)
 
 pub put-brief-spec : {M : Type 1} → statement M
 put-brief-spec =
     tie.close
-    (tie.spec put-ends-requires put-pair-end-requires put-record-requires same-length returns)
+    (tie.spec put-ends-requires put-led-requires put-record-requires same-length returns)

@@ -6,7 +6,7 @@ use Rattle.yaml_scan.specs.declared.Choice.{Choice}
 use Rattle.yaml_scan.specs.declared.Choice.the-variants.{AtComma}
 use Rattle.yaml_scan.specs.Choice.{fetch}
 use Rattle.steps.specs.Step.{Chosen}
-use Rattle.steps.proofs.Arms.{bracket, by-rest, by-text, known, stood}
+use Rattle.steps.proofs.Arms.{bracket, by-one, by-rest, by-text, known, stood}
 use Rattle.steps.proofs.Content.{only-comma, plain-asked}
 use Rattle.steps.proofs.fetch_brief.Statement.{statement}
 use Rattle.steps.proofs.fetch_brief.Tie as tie
@@ -19,8 +19,8 @@ chosen : (c : tie.After-slice-known3) {d : Choice} → start c .args .c ≡ d
     → let a = start c .args in Chosen (a .limits) (now (a .text)) (now (a .entries)) (now (a .frames)) (a .n .used) (a .s) d
 chosen c e = known (start c .pre .0) e
 
-left : (c : tie.At-match-keys4) → start (c .before) .args .c ≡ AtComma
-left c = only-comma _ (start (c .before) .pre .1) (c .match .keys4)
+left : (c : tie.At-match-keys5) → start (c .before) .args .c ≡ AtComma
+left c = only-comma _ (start (c .before) .pre .1) (c .match .keys5)
 
 enum-told : tie.Need-enum-told
 enum-told c = search needs
@@ -36,6 +36,12 @@ part-fetch-plain-scalar-end c = search needs
 
 fetch-plain-scalar-requires : tie.Need-fetch-plain-scalar-requires
 fetch-plain-scalar-requires c κs = plain-asked (chosen (c .before .before .before .before .before .before) (c .before .before .before .before .enum-told .given .1)) (search needs)
+
+enum-told-2 : tie.Need-enum-told-2
+enum-told-2 c = search needs
+
+fetch-block-entry-requires : tie.Need-fetch-block-entry-requires
+fetch-block-entry-requires c κs = search needs
 
 enum-known-c : tie.Need-enum-known-c
 enum-known-c c = search needs
@@ -109,24 +115,36 @@ same-length-5 c = search needs
 returns-2 : tie.Need-returns-2
 unfolding fetch
 returns-2 c =
-    let k = chosen (c .before .before .before .before .before .before .before .before .before .before .before) (c .before .before .before .before .before .before .before .before .before .c .given .1) in
-    by-rest k (c .before .before .before .before .fetch-flow-collection-start .ensures)
+    let k = chosen (c .before .before .before .before .before .before .before .before .before) (c .before .before .before .before .before .before .before .enum-told2 .given .1) in
+    by-one k (stood k) (c .before .before .before .before .fetch-block-entry .ensures)
 
 same-length-6 : tie.Need-same-length-6
 same-length-6 c = search needs
 
+same-length-7 : tie.Need-same-length-7
+same-length-7 c = search needs
+
 returns-3 : tie.Need-returns-3
 unfolding fetch
 returns-3 c =
-    let k = chosen (c .before .before .before .before .before .before .before .before) (c .before .before .before .before .before .before .c2 .given .1) in
-    by-rest k (c .before .before .fetch-flow-collection-end .ensures _ _ _ (k .ready))
+    let k = chosen (c .before .before .before .before .before .before .before .before .before .before .before) (c .before .before .before .before .before .before .before .before .before .c .given .1) in
+    by-rest k (c .before .before .before .before .fetch-flow-collection-start .ensures)
 
-same-length-7 : tie.Need-same-length-7
-same-length-7 c = search needs
+same-length-8 : tie.Need-same-length-8
+same-length-8 c = search needs
 
 returns-4 : tie.Need-returns-4
 unfolding fetch
 returns-4 c =
+    let k = chosen (c .before .before .before .before .before .before .before .before) (c .before .before .before .before .before .before .c2 .given .1) in
+    by-rest k (c .before .before .fetch-flow-collection-end .ensures _ _ _ (k .ready))
+
+same-length-9 : tie.Need-same-length-9
+same-length-9 c = search needs
+
+returns-5 : tie.Need-returns-5
+unfolding fetch
+returns-5 c =
     let k = chosen (c .before .before .before .before .before .before) (left (c .before .before .before .before .before)) in
     by-rest k (c .before .before .fetch-flow-entry .ensures _ _ _ (k .ready))
 
@@ -139,6 +157,8 @@ fetch-brief-spec =
     part-fetch-plain-scalar-start
     part-fetch-plain-scalar-end
     fetch-plain-scalar-requires
+    enum-told-2
+    fetch-block-entry-requires
     enum-known-c
     sub-fetch-flow-collection-start
     part-fetch-flow-collection-start-start
@@ -161,6 +181,9 @@ fetch-brief-spec =
     same-length-5
     returns-2
     same-length-6
-    returns-3
     same-length-7
-    returns-4)
+    returns-3
+    same-length-8
+    returns-4
+    same-length-9
+    returns-5)

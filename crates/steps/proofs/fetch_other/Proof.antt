@@ -63,17 +63,11 @@ fetch-document-indicator-requires c κs =
 enum-told-5 : tie.Need-enum-told-5
 enum-told-5 c = search needs
 
-fetch-block-entry-requires : tie.Need-fetch-block-entry-requires
-fetch-block-entry-requires c κs = search needs
-
-enum-told-6 : tie.Need-enum-told-6
-enum-told-6 c = search needs
-
 fetch-key-requires : tie.Need-fetch-key-requires
 fetch-key-requires c κs = search needs
 
-enum-told-7 : tie.Need-enum-told-7
-enum-told-7 c = search needs
+enum-told-6 : tie.Need-enum-told-6
+enum-told-6 c = search needs
 
 fetch-value-requires : tie.Need-fetch-value-requires
 fetch-value-requires c κs = search needs
@@ -90,7 +84,7 @@ part-fetch-content-end c = search needs
 fetch-content-requires : tie.Need-fetch-content-requires
 fetch-content-requires c κs =
     let p = start (c .before .before .before .before .before) .pre in
-    lexical (p .0) (search needs) (c .before .before .before .before .match .keys9) (p .1)
+    lexical (p .0) (search needs) (c .before .before .before .before .match .keys8) (p .1)
 
 same-length : tie.Need-same-length
 same-length c = search needs
@@ -150,7 +144,7 @@ returns-6 : tie.Need-returns-6
 unfolding fetch
 returns-6 c =
     let k = chosen (c .before .before .before .before .before .before .before .before .before) (c .before .before .before .before .before .before .before .enum-told5 .given .1) in
-    by-one k (stood k) (c .before .before .before .before .fetch-block-entry .ensures)
+    by-one k (stood k) (c .before .before .before .before .fetch-key .ensures)
 
 same-length-9 : tie.Need-same-length-9
 same-length-9 c = search needs
@@ -162,7 +156,7 @@ returns-7 : tie.Need-returns-7
 unfolding fetch
 returns-7 c =
     let k = chosen (c .before .before .before .before .before .before .before .before .before) (c .before .before .before .before .before .before .before .enum-told6 .given .1) in
-    by-one k (stood k) (c .before .before .before .before .fetch-key .ensures)
+    by-one k (stood k) (c .before .before .before .before .fetch-value .ensures)
 
 same-length-11 : tie.Need-same-length-11
 same-length-11 c = search needs
@@ -170,23 +164,11 @@ same-length-11 c = search needs
 same-length-12 : tie.Need-same-length-12
 same-length-12 c = search needs
 
-returns-8 : tie.Need-returns-8
-unfolding fetch
-returns-8 c =
-    let k = chosen (c .before .before .before .before .before .before .before .before .before) (c .before .before .before .before .before .before .before .enum-told7 .given .1) in
-    by-one k (stood k) (c .before .before .before .before .fetch-value .ensures)
-
 same-length-13 : tie.Need-same-length-13
 same-length-13 c = search needs
 
-same-length-14 : tie.Need-same-length-14
-same-length-14 c = search needs
-
-same-length-15 : tie.Need-same-length-15
-same-length-15 c = search needs
-
-returns-9 : tie.Need-returns-9
-returns-9 c =
+returns-8 : tie.Need-returns-8
+returns-8 c =
     let k = start (c .before .before .before .before .before .before .before .before .before .before) .pre .0 in
     by-text k (c .before .before .before .before .fetch-content .ensures _ (k .ready))
 
@@ -208,10 +190,8 @@ fetch-other-spec =
     part-fetch-document-indicator-end
     fetch-document-indicator-requires
     enum-told-5
-    fetch-block-entry-requires
-    enum-told-6
     fetch-key-requires
-    enum-told-7
+    enum-told-6
     fetch-value-requires
     sub-fetch-content
     part-fetch-content-start
@@ -236,8 +216,5 @@ fetch-other-spec =
     returns-7
     same-length-11
     same-length-12
-    returns-8
     same-length-13
-    same-length-14
-    same-length-15
-    returns-9)
+    returns-8)

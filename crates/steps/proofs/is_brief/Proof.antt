@@ -15,6 +15,9 @@ enum-told-3 c = search needs
 enum-told-4 : tie.Need-enum-told-4
 enum-told-4 c = search needs
 
+enum-told-5 : tie.Need-enum-told-5
+enum-told-5 c = search needs
+
 returns : tie.Need-returns
 returns c = search needs
 
@@ -28,7 +31,10 @@ returns-4 : tie.Need-returns-4
 returns-4 c = search needs
 
 returns-5 : tie.Need-returns-5
-returns-5 c = not-brief (c .before .args .c) (c .match .keys5)
+returns-5 c = search needs
+
+returns-6 : tie.Need-returns-6
+returns-6 c = not-brief (c .before .args .c) (c .match .keys6)
 
 pub is-brief-spec : {M : Type 1} → statement M
 is-brief-spec =
@@ -38,8 +44,10 @@ is-brief-spec =
     enum-told-2
     enum-told-3
     enum-told-4
+    enum-told-5
     returns
     returns-2
     returns-3
     returns-4
-    returns-5)
+    returns-5
+    returns-6)

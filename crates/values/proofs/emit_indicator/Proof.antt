@@ -2,14 +2,14 @@ use borrow.Author.Needs.{needs}
 use Rattle.values.proofs.emit_indicator.Statement.{statement}
 use Rattle.values.proofs.emit_indicator.Tie as tie
 
-skip-blank-requires : tie.Need-skip-blank-requires
-skip-blank-requires c κs = search needs
+one-character-requires : tie.Need-one-character-requires
+one-character-requires c κs = search needs
 
 moved-requires : tie.Need-moved-requires
 moved-requires c κs = search needs
 
 returns : tie.Need-returns
-returns c = rw (c .moved .ensures, c .before .before .skip-blank .ensures)
+returns c = rw (c .moved .ensures, c .before .before .one-character .ensures)
 
 pub emit-indicator-spec : {M : Type 1} → statement M
-emit-indicator-spec = tie.close (tie.spec skip-blank-requires moved-requires returns)
+emit-indicator-spec = tie.close (tie.spec one-character-requires moved-requires returns)

@@ -28,10 +28,15 @@ is-blank-or-breakz-requires c κs = search needs
 
 returns : tie.Need-returns
 returns c =
-    let k = c .before .before .before in
-    let a = k .before .before in
-    rw (k .byte .ensures, c .before .before .byte2 .ensures, c .is-blank-or-breakz .ensures, c .before .look .ensures)
-    (twice-bytes (now (a .args .s)) (a .args .at) (a .args .b) (a .pre .0) (a .pre .1) (a .pre .2))
+    let k = c .before .before in
+    let a = k .before .before .before .before in
+    rw (c .is-blank-or-breakz .ensures, c .before .look .ensures)
+    (rw (k .if1 .taken) at (rw (← (k .before .before .byte .ensures), ← (k .before .byte2 .ensures)) at (twice-bytes (now (a .args .s)) (a .args .at) (a .args .b) (a .pre .0) (a .pre .1) (a .pre .2))))
+
+returns-2 : tie.Need-returns-2
+returns-2 c =
+    let a = c .before .before .before .before in
+    rw (c .if1 .left) at (rw (← (c .before .before .byte .ensures), ← (c .before .byte2 .ensures)) at (twice-bytes (now (a .args .s)) (a .args .at) (a .args .b) (a .pre .0) (a .pre .1) (a .pre .2)))
 
 pub twice-more-spec : {M : Type 1} → statement M
 twice-more-spec =
@@ -44,4 +49,5 @@ twice-more-spec =
     add-look
     look-requires
     is-blank-or-breakz-requires
-    returns)
+    returns
+    returns-2)

@@ -9,22 +9,24 @@ add-look c = search needs
 look-requires : tie.Need-look-requires
 look-requires c κs = search needs
 
+is-blank-or-breakz-requires : tie.Need-is-blank-or-breakz-requires
+is-blank-or-breakz-requires c κs = search needs
+
+returns : tie.Need-returns
+unfolding dash-or-question
+returns c = rw (← (c .before .before .look .ensures), ← (c .before .is-blank-or-breakz .ensures), c .if1 .taken)
+
 is-flow-requires : tie.Need-is-flow-requires
 is-flow-requires c κs = search needs
 
 pick-requires : tie.Need-pick-requires
 pick-requires c κs = search needs
 
-is-blank-or-breakz-requires : tie.Need-is-blank-or-breakz-requires
-is-blank-or-breakz-requires c κs = search needs
-
-pick-requires-2 : tie.Need-pick-requires-2
-pick-requires-2 c κs = search needs
-
-returns : tie.Need-returns
+returns-2 : tie.Need-returns-2
 unfolding dash-or-question
-returns c =
-    rw (c .pick2 .ensures, c .before .is-blank-or-breakz .ensures, c .before .before .pick .ensures, c .before .before .before .is-flow .ensures, c .before .before .before .before .look .ensures)
+returns-2 c =
+    let k = c .before .before in
+    rw (c .pick .ensures, c .before .is-flow .ensures, ← (k .before .before .look .ensures), ← (k .before .is-blank-or-breakz .ensures), k .if1 .left)
 
 pub dash-or-question-spec : {M : Type 1} → statement M
 dash-or-question-spec =
@@ -32,8 +34,8 @@ dash-or-question-spec =
     (tie.spec
     add-look
     look-requires
+    is-blank-or-breakz-requires
+    returns
     is-flow-requires
     pick-requires
-    is-blank-or-breakz-requires
-    pick-requires-2
-    returns)
+    returns-2)

@@ -1,7 +1,11 @@
 use mathlib.Core.Path.{_≡_, ap, refl}
 use denote.Ref.{now}
 use borrow.Author.Needs.{needs}
+use Rattle.news.specs.declared.Event.{Event}
+use Rattle.states.specs.declared.State.{State}
+use Rattle.states.specs.declared.Fetched.the-variants as fetched
 use Rattle.states.specs.Brief.{brief-fetched}
+use Rattle.states.specs.Say.{Countable}
 use Rattle.scanner.specs.Run.{Fine, ending}
 use Rattle.scanner.proofs.Token.{goes, heard-as, token-chosen, token-counts, token-goes, token-refused}
 use Rattle.scanner.proofs.run.brief.Statement.{statement}
@@ -16,6 +20,9 @@ fine f = start f .pre .0
 
 ended : (f : tie.After-fetch-brief) → f .before .before .before .before .ending .result ≡ ending (start f .args .n) (start f .args .ended)
 ended f = f .before .before .before .before .ending .ensures
+
+counts : (f : tie.After-fetch-brief) {t : State} {e : Event} → brief-fetched (f .fetch-brief .result) ≡ fetched.Goes e t → Countable (f .before .before .before .before .ending .result) e
+counts f q = token-counts (fine f) (start f .args .ended) (start f .pre .1) (ended f) (f .fetch-brief .ensures) (heard-as q refl goes)
 
 ending-requires : tie.Need-ending-requires
 ending-requires c κs = search needs
@@ -36,10 +43,19 @@ brief-event-requires : tie.Need-brief-event-requires
 brief-event-requires c κs = search needs
 
 counting-requires : tie.Need-counting-requires
-counting-requires c κs =
-    let f = c .before .before .before .before .before .before .before .before .before .before .before .before .before .before in
-    rw (c .brief-event .ensures)
-    (token-counts (fine f) (start f .args .ended) (start f .pre .1) (ended f) (f .fetch-brief .ensures) (heard-as (ap brief-fetched (c .before .before .before .before .before .before .r2 .given .1)) refl goes))
+counting-requires c κs = rw (c .brief-event .ensures) (counts (c .before .before .before .before .before .before .before .before .before .before .before .before .before .before) (ap brief-fetched (c .before .before .before .before .before .before .r2 .given .1)))
+
+enum-known-r-3 : tie.Need-enum-known-r-3
+enum-known-r-3 c = search needs
+
+put-entry-requires : tie.Need-put-entry-requires
+put-entry-requires c κs = search needs
+
+brief-event-requires-2 : tie.Need-brief-event-requires-2
+brief-event-requires-2 c κs = search needs
+
+counting-requires-2 : tie.Need-counting-requires-2
+counting-requires-2 c κs = rw (c .brief-event2 .ensures) (counts (c .before .before .before .before .before .before .before .before .before .before .before .before .before .before) (ap brief-fetched (c .before .before .before .before .before .before .r3 .given .1)))
 
 same-length : tie.Need-same-length
 same-length c = search needs
@@ -74,6 +90,25 @@ returns-2 c =
     token-goes (fine f) (start f .args .ended) (start f .pre .1) (ended f) (f .fetch-brief .ensures) (ap brief-fetched (c .before .before .before .before .before .before .before .r2 .given .1))
     (kept .0) (kept .1 .0) (c .before .before .before .before .put-brief .ensures) (rw (c .before .brief-event .ensures) at (c .counting .ensures))
 
+same-length-8 : tie.Need-same-length-8
+same-length-8 c = c .before .before .before .before .before .before .before .before .before .before .before .before .before .before .before .fetch-brief .kept .1 .1 .1 .1 .1 .0
+
+same-length-9 : tie.Need-same-length-9
+same-length-9 c = search needs
+
+same-length-10 : tie.Need-same-length-10
+same-length-10 c = search needs
+
+same-length-11 : tie.Need-same-length-11
+same-length-11 c = search needs
+
+returns-3 : tie.Need-returns-3
+returns-3 c =
+    let f = c .before .before .before .before .before .before .before .before .before .before .before .before .before .before .before in
+    let kept = f .fetch-brief .kept .1 .1 .1 .1 .1 in
+    token-goes (fine f) (start f .args .ended) (start f .pre .1) (ended f) (f .fetch-brief .ensures) (ap brief-fetched (c .before .before .before .before .before .before .before .r3 .given .1))
+    (kept .0) (kept .1 .0) (c .before .before .before .before .put-entry .ensures) (rw (c .before .brief-event2 .ensures) at (c .counting2 .ensures))
+
 pub brief-spec : {M : Type 1} → statement M
 brief-spec =
     tie.close
@@ -85,6 +120,10 @@ brief-spec =
     put-brief-requires
     brief-event-requires
     counting-requires
+    enum-known-r-3
+    put-entry-requires
+    brief-event-requires-2
+    counting-requires-2
     same-length
     same-length-2
     same-length-3
@@ -93,4 +132,9 @@ brief-spec =
     same-length-5
     same-length-6
     same-length-7
-    returns-2)
+    returns-2
+    same-length-8
+    same-length-9
+    same-length-10
+    same-length-11
+    returns-3)
