@@ -1,31 +1,32 @@
 -- Where a plain scalar's text ends, told by the byte at a place.
-use Prim.Native.Nat.{_+_, _<_, _≤_, suc, ℕ}
+use Prim.Native.Nat.{_%_, _*_, _+_, _<_, _≤_, suc, ℕ}
 use mathlib.Core.Bool.{Bool, _&&_, _||_, and-false, and-true, false, or-false, or-true, true}
 use mathlib.Core.List.{List}
 use mathlib.Core.Logic.{_⊎_, inl, inr}
 use mathlib.Core.Path.{_∙_, _≡_, refl, sym}
 use native.Mathlib.Omega.{arith}
-use lib.Dec.{eqb, ltb}
+use lib.Dec.{eqb, leb, ltb}
 use lib.ListN.{drop, getD, length}
 use lib.Seq.{drop-cons}
-use borrow.Author.Tests.{ltb-false, ltb-true, ne-eqb}
+use borrow.Author.Tests.{le-leb, le-ltb, leb-true, lt-ltb, ltb-false, ltb-true, ne-eqb}
 use denote.Enum.Declared.{tagOf}
 use Rattle.yaml_text.proofs.Decoded.{the-type}
 use Rattle.yaml_text.specs.declared.Decoded.{Decoded}
 use Rattle.yaml_text.specs.declared.Decoded.the-variants.{Char, End, Ill}
 use Rattle.yaml_text.specs.declared.Mark.{Mark}
-use Rattle.yaml_text.specs.Char.{'#', ':'}
+use Rattle.yaml_text.specs.Char.{'#', ':', byte-order-mark}
 use Rattle.yaml_text.specs.Class.{isBlank, isBom, isBreak, isBreakz, isFlow, isZ, among, peek}
 use Rattle.yaml_text.specs.Mark.{here, nothing-at}
-use Rattle.yaml_text.specs.Test.{by-test, true-false}
-use Rattle.yaml_text.specs.Utf8.{chars, first}
+use Rattle.yaml_text.specs.Test.{both-true, by-test, true-false}
+use Rattle.yaml_text.specs.Utf8.{chars, first, isScalar, isTail, lenOf, three}
 use Rattle.yaml_text.specs.Utf8Laws.{first-past}
 use Rattle.yaml_text.specs.ByteLaws.{first-high}
 use Rattle.yaml_lexeme.specs.Plain.{plain-stops, plain-text}
 use Rattle.yaml_lexeme.specs.Turns.{plain-stop}
+use Rattle.utf8.proofs.Laws.{case3}
 use Rattle.chars.specs.Ascii.{Ascii, _or_, apart, blank-ascii, break-ascii, flow-ascii, range}
 use Rattle.chars.specs.Bytes.{CharAt, byte-char, byte-within, char-at, none-end, none-ill}
-use Rattle.plain.specs.Text.{ends-at-colon, ordinary, taken, text-length}
+use Rattle.plain.specs.Text.{ends-at-colon, ordinary, taken, text-length, usual}
 
 -- the characters at which a text could end
 unfoldable pub marked : ℕ → Bool
@@ -119,6 +120,24 @@ module _ (flow blank : Bool) (s : List ℕ) (at b : ℕ) (e : b ≡ getD s at 0)
       let k : at < length s = byte-within s at b e (omega arith) in
       let w : 128 ≤ c = first-high b (drop (suc at) s) c n h (rw (drop-cons s at 0 k, ← e) at f) in
       rw (f, unmarked flow blank c (peek (chars (drop (at + n) s)) 0) (high-unmarked c w g))
+
+  pub usual-goes : usual b (getD s (at + 1) 0) (getD s (at + 2) 0) ≡ true → 3 ≡ text-length flow blank s at
+  unfolding usual lenOf three isScalar isBom
+  usual-goes u =
+      let x = getD s (at + 1) 0 in
+      let y = getD s (at + 2) 0 in
+      let u' = both-true (leb 225 b && leb b 236) (isTail x && isTail y) u in
+      let t = both-true (isTail x) (isTail y) (u' .1) in
+      let h = both-true (leb 225 b) (leb b 236) (u' .0) in
+      let l = leb-true 225 b (h .0) in
+      let m = leb-true b 236 (h .1) in
+      let v = b % 16 * 4096 + x % 64 * 64 + y % 64 in
+      let v0 : 0x800 ≤ v = omega arith in
+      let v1 : v < 0xd800 = omega arith in
+      let v2 : v < 0x110000 = omega arith in
+      let n : 3 ≡ lenOf b = rw (le-ltb b 128 (omega arith), le-ltb b 192 (omega arith), le-ltb b 224 (omega arith), lt-ltb b 240 (omega arith)) in
+      let w : Char v 3 ≡ three b x y = rw (t .0, t .1, le-leb 0x800 v v0, lt-ltb v 0xd800 v1, lt-ltb v 0x110000 v2) in
+      high-goes (omega arith) v 3 (sym (case3 s at (byte-within s at b e (omega arith)) 3 (rw (← e) n) refl x y (Char v 3) refl refl (rw (← e) w))) (ne-eqb v byte-order-mark (omega arith))
 
 pub high-stops : (flow blank : Bool) (s : List ℕ) (at c n : ℕ) → first (drop at s) ≡ Char c n → isBom c ≡ true → 0 ≡ text-length flow blank s at
 unfolding taken

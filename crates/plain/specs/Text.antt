@@ -8,7 +8,7 @@ use Rattle.yaml_text.specs.declared.Decoded.{Decoded}
 use Rattle.yaml_text.specs.declared.Decoded.the-variants.{Char, End, Ill}
 use Rattle.yaml_text.specs.Class.{isBlankOrBreakz, isFlow, peek}
 use Rattle.yaml_text.specs.Pick.{pick}
-use Rattle.yaml_text.specs.Utf8.{chars, first}
+use Rattle.yaml_text.specs.Utf8.{chars, first, isTail}
 use Rattle.yaml_lexeme.specs.Plain.{plain-stops}
 
 -- a ':' before the character d ends it
@@ -27,3 +27,7 @@ text-length flow blank s at = taken flow blank s at (first (drop at s))
 -- - . / 0 to 9; ; < = > ? @ A to Z; ^ _ ` a to z
 unfoldable pub ordinary : ℕ → Bool
 ordinary b = (leb 45 b && leb b 57) || (leb 59 b && leb b 90) || (leb 94 b && leb b 122)
+
+-- three bytes that are one character by their form
+unfoldable pub usual : ℕ → ℕ → ℕ → Bool
+usual a b c = leb 225 a && leb a 236 && (isTail b && isTail c)

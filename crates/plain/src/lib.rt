@@ -12,7 +12,7 @@ ghost use Rattle.chars.specs.Each.{Each, count-of, one-of};
 ghost use Rattle.chars.specs.Parts.{Spans};
 ghost use Rattle.chars.specs.View.{Small, Stands, view};
 ghost use Rattle.reading.specs.Reading.{Given, Lexes, first-at};
-ghost use Rattle.plain.specs.Text.{ends-at-colon, ordinary, text-length};
+ghost use Rattle.plain.specs.Text.{ends-at-colon, ordinary, text-length, usual};
 use chars::class::is_blank;
 use chars::class::is_blank_or_breakz;
 use chars::class::is_bom;
@@ -24,6 +24,7 @@ use reading::got;
 use reading::text_at;
 use utf8::byte;
 use utf8::char_at;
+use utf8::is_tail;
 use utf8::lead_len;
 use utf8::look;
 use utf8::three_bytes;
@@ -73,6 +74,18 @@ fn wide_at(text: &[u8], at: usize, b: u8) -> Decoded
     char_at(text, at)
 }
 
+// Whether the byte b at a place and the two behind it are one character by their form: these leads begin no surrogate, no byte order mark and
+// no longer form than need be.
+fn is_usual(text: &[u8], at: usize, b: u8) -> bool
+    requires { ⌜ at ≤ length (now text) ⌝ }
+    ensures { λ r. ⌜ r ≡ usual b (getD (now (text .entry)) (at + 1) 0) (getD (now (text .entry)) (at + 2) 0) ⌝ }
+{
+    if (225 <= b) & (b <= 236) {
+        return is_tail(byte(text, at + 1)) & is_tail(byte(text, at + 2));
+    }
+    false
+}
+
 // How many bytes the character takes that begins with the byte b at a place; 0: the text ends before it.
 fn text_length(text: &[u8], at: usize, flow: bool, blank: bool, b: u8) -> usize
     requires { ⌜ (at ≤ length (now text)) × (b ≡ getD (now text) at 0) ⌝ }
@@ -83,6 +96,9 @@ fn text_length(text: &[u8], at: usize, flow: bool, blank: bool, b: u8) -> usize
             return 0;
         }
         return 1;
+    }
+    if is_usual(text, at, b) {
+        return 3;
     }
     let d = wide_at(text, at, b);
     let Decoded::Char { code, len } = d else {
