@@ -133,7 +133,7 @@ fn apart(r: Turn) -> Turn
     ensures { λ e. ⌜ e ≡ r ⌝ }
 {
     match r {
-        Turn::On(t, m) => Turn::On(t, m),
+        Turn::On(t, m) => Turn::On(t.anew(), m),
         Turn::Over(o) => Turn::Over(o),
     }
 }
@@ -155,7 +155,18 @@ fn token(
 {
     let c = choice(text, s);
     if is_brief(c) {
-        return brief(limits, text, c, s, ended, n, entries, frames, words, bytes);
+        return brief(
+            limits,
+            text,
+            c,
+            s.anew(),
+            ended,
+            n,
+            entries,
+            frames,
+            words,
+            bytes,
+        );
     }
     apart(lexeme(limits, text, c, s, ended, n, entries, frames, words, bytes))
 }

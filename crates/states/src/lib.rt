@@ -167,6 +167,29 @@ impl State {
         s
     }
 
+    // The same state, put together anew, as a mark is.
+    pub fn anew(self) -> Self
+        ensures { λ r. ⌜ r ≡ self ⌝ }
+    {
+        let i = self.indents;
+        let p = self.place;
+        let m = p.mark;
+        State {
+            leads: self.leads,
+            allowed: self.allowed,
+            adjacent: self.adjacent,
+            indents: Indents {
+                indent: i.indent,
+                depth: i.depth,
+            },
+            place: Place {
+                at: p.at,
+                mark: anew(m),
+            },
+            depth: self.depth,
+        }
+    }
+
     pub fn with_indents(self, i: Indents) -> Self
         ensures { λ r. ⌜ r ≡ s-with-indents self i ⌝ }
     {
@@ -303,6 +326,17 @@ pub fn closing(n: u32, t: Token) -> Event
     }
 }
 
+// The same mark, put together anew: a copy loads at once what was stored in parts, and waits for them.
+fn anew(m: Mark) -> Mark
+    ensures { λ r. ⌜ r ≡ m ⌝ }
+{
+    Mark {
+        index: m.index,
+        line: m.line,
+        col: m.col,
+    }
+}
+
 // Behind a lexeme that was read from the place p on.
 pub fn behind(p: Place, next: Place) -> Place
     requires { ⌜ p .at + next .at < 2 ^ 63 ⌝ }
@@ -311,7 +345,7 @@ pub fn behind(p: Place, next: Place) -> Place
     let m = next.mark;
     Place {
         at: p.at + next.at,
-        mark: m,
+        mark: anew(m),
     }
 }
 

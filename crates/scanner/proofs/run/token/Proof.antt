@@ -8,8 +8,11 @@ choice-requires c κs = search needs
 is-brief-requires : tie.Need-is-brief-requires
 is-brief-requires c κs = search needs
 
+anew-requires : tie.Need-anew-requires
+anew-requires c κs = search needs
+
 brief-requires : tie.Need-brief-requires
-brief-requires c κs = search needs
+brief-requires c κs = rw (c .before .before .before .before .anew .ensures) (search needs)
 
 same-length : tie.Need-same-length
 same-length c = search needs
@@ -24,7 +27,7 @@ same-length-4 : tie.Need-same-length-4
 same-length-4 c = search needs
 
 returns : tie.Need-returns
-returns c = search needs
+returns c = rw (c .before .before .before .before .before .before .before .before .before .before .before .before .before .anew .ensures) at (c .before .before .before .before .before .before .before .before .brief .ensures)
 
 lexeme-requires : tie.Need-lexeme-requires
 lexeme-requires c κs = search needs
@@ -53,6 +56,7 @@ token-spec =
     (tie.spec
     choice-requires
     is-brief-requires
+    anew-requires
     brief-requires
     same-length
     same-length-2

@@ -1,0 +1,12 @@
+use borrow.Author.Needs.{needs}
+use Rattle.states.proofs.State.anew.Statement.{statement}
+use Rattle.states.proofs.State.anew.Tie as tie
+
+anew-requires : tie.Need-anew-requires
+anew-requires c κs = search needs
+
+returns : tie.Need-returns
+returns c = rw (c .anew .ensures)
+
+pub anew-spec : {M : Type 1} → statement M
+anew-spec = tie.close (tie.spec anew-requires returns)
