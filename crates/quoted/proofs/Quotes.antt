@@ -1,5 +1,5 @@
 -- Turns over a quote and over a run of text.
-use Prim.Native.Nat.{_+_, _-_, ℕ}
+use Prim.Native.Nat.{_+_, _-_, _≤_, ℕ}
 use mathlib.Core.Bool.{Bool, _&&_, false, true}
 use mathlib.Core.List.{List, [], _∷_}
 use mathlib.Core.Path.{_∙_, _≡_, ap, refl}
@@ -10,8 +10,7 @@ use lib.Seq.{length-take-le, sets}
 use borrow.Author.Tests.{eq-eqb, eqb-true}
 use Rattle.yaml_text.specs.Char.{single-quote}
 use Rattle.yaml_text.specs.Class.{isBlank, isBreak, peek}
-use Rattle.yaml_text.specs.Mark.{along, along-by, word}
-use Rattle.yaml_text.specs.MarkLaws.{word-more}
+use Rattle.yaml_text.specs.Mark.{along, along-by, edge-of}
 use Rattle.yaml_text.specs.Test.{both-true}
 use Rattle.yaml_text.specs.Utf8.{bytesOf, chars, encode}
 use Rattle.yaml_text.specs.Utf8Laws.{first-bytes}
@@ -26,9 +25,9 @@ use Rattle.quoted.specs.declared.turns.Quote.{Quote}
 use Rattle.quoted.specs.declared.turns.Turned.{Turned}
 use Rattle.quoted.specs.declared.turns.Turned.the-variants.{Ends, Goes}
 use Rattle.quoted.specs.Modes.{mode-of}
-use Rattle.quoted.specs.Texts.{quote-by, text-char}
+use Rattle.quoted.specs.Texts.{quote-by, text-char, words}
 use Rattle.quoted.specs.Written.{Sound, Turns, quote-of, text-turn}
-use Rattle.quoted.proofs.Texts.{Passed, pass-along, run-closed, run-pair, run-word}
+use Rattle.quoted.proofs.Texts.{Passed, pass-along, run-closed, run-pair, run-words, words-more}
 use Rattle.quoted.proofs.Turning.{closed-at, goes-on}
 
 quote-unblank : (single : Bool) → (isBlank (quote-by single) ≡ false) × (isBreak (quote-by single) ≡ false)
@@ -78,20 +77,20 @@ module _ {text : List ℕ} {q : Quote} {p : Place} {n : ℕ} {r : Turned} (s : S
         (stands-along (s .stands) 1 1 (omega arith) (a .within)) (omega arith) (omega (arith, s .few)) k
 
   -- a run of text
-  pub run-turns : {before after : List ℕ} {c len : ℕ} {e : Place} → CharAt text (p .at) c len → text-char (q .single) c ≡ true
-      → Spans text p e (word (text-char (q .single)) (p .mark) (chars (drop (p .at) text))) → after ≡ sets before n (part text (p .at) (e .at))
-      → r ≡ Goes (text-turn e (n + (e .at - p .at))) → Turns text q before after (text-turn p n) r
+  pub run-turns : {before after : List ℕ} {c len : ℕ} {e : Place} (spaces : Bool) → (spaces ≡ true → q .indent ≤ edge-of (p .mark)) → CharAt text (p .at) c len
+      → text-char (q .single) c ≡ true → Spans text p e (words spaces (q .single) (p .mark) (chars (drop (p .at) text)))
+      → after ≡ sets before n (part text (p .at) (e .at)) → r ≡ Goes (text-turn e (n + (e .at - p .at))) → Turns text q before after (text-turn p n) r
   unfolding mode-of encode
-  run-turns {before} {after} {c} {len} {e} a t w f k =
+  run-turns {before} {after} {c} {len} {e} spaces h a t w f k =
       let m = p .mark in
-      let y = word (text-char (q .single)) m (chars (drop (p .at) text)) in
-      let z = word (text-char (q .single)) (along m) (chars (drop (p .at + len) text)) in
+      let y = words spaces (q .single) m (chars (drop (p .at) text)) in
+      let z = words spaces (q .single) (along m) (chars (drop (p .at + len) text)) in
       let o = w .moves .onward in
       let l : length (encode (y .text)) ≡ e .at - p .at =
       ap length (w .bytes) ∙ length-take-le (e .at - p .at) _ (omega (arith, length-drop (p .at) text, w .moves .stands .within)) in
       let g : length (encode (y .text)) ≡ length (bytesOf c) + length (encode (z .text)) =
-      rw (a .next, word-more (text-char (q .single)) m c (chars (drop (p .at + len) text)) t) (length-append (bytesOf c) (encode (z .text))) in
+      rw (a .next, words-more spaces (q .single) m c (chars (drop (p .at + len) text)) (rw t)) (length-append (bytesOf c) (encode (z .text))) in
       let i = first-bytes (drop (p .at) text) c len (a .is) .1 in
-      goes-on (y .text) (text-turn e (n + (e .at - p .at))) (run-word (quote-of q) m (chars (drop (p .at) text)) ∙ rw (← (w .moves .same))) (f ∙ rw (w .bytes)) (rw l)
+      goes-on (y .text) (text-turn e (n + (e .at - p .at))) (run-words (quote-of q) spaces m (chars (drop (p .at) text)) h ∙ rw (← (w .moves .same))) (f ∙ rw (w .bytes)) (rw l)
       (record { stands = w .moves .stands; short = s .short; kept = tt; few = omega (arith, s .few) })
       (omega (arith, a .some)) k

@@ -1,27 +1,28 @@
 -- Turns of the definition over a character of the text: a quote, a backslash, a run.
-use Prim.Native.Nat.{_+_, _<_, suc, zero, ℕ}
+use Prim.Native.Nat.{_+_, _<_, _≤_, suc, zero, ℕ}
 use mathlib.Core.Bool.{Bool, _&&_, _||_, false, not, true}
 use mathlib.Core.List.{List, [], _∷_}
 use mathlib.Core.Path.{_∙_, _≡_, ap, refl, sym}
 use native.Mathlib.Omega.{arith}
-use lib.Dec.{eqb}
+use lib.Dec.{eqb, ltb}
 use lib.ListN.{drop}
-use borrow.Author.Tests.{not-true}
+use borrow.Author.Tests.{eqb-true, le-ltb, ne-eqb, not-true}
 use Rattle.yaml_text.specs.declared.Mark.{Mark}
-use Rattle.yaml_text.specs.Char.{backslash, single-quote}
+use Rattle.yaml_text.specs.Char.{backslash, single-quote, space}
 use Rattle.yaml_text.specs.Class.{isBlank, isBreak, peek}
-use Rattle.yaml_text.specs.Mark.{along, along-by, break-length, here, word}
-use Rattle.yaml_text.specs.MarkLaws.{over-along, word-more, word-stop}
+use Rattle.yaml_text.specs.Mark.{along, along-by, before-run, break-length, edge-of, here, isMarker, nothing-at}
+use Rattle.yaml_text.specs.MarkLaws.{over-along}
 use Rattle.yaml_text.specs.Refusal.{before-read, got}
-use Rattle.yaml_text.specs.Test.{by-test, true-false}
+use Rattle.yaml_text.specs.Test.{both-true, by-test, true-false}
 use Rattle.yaml_text.specs.Utf8.{chars}
 use Rattle.yaml_text.specs.Utf8Laws.{bytes1}
 use Rattle.yaml_lexeme.specs.Escape.{escape}
-use Rattle.yaml_lexeme.specs.Quoted.{Mode, Quote, chars-of, escape-turn, joined, quote-char, quoted-char, quoted-run, quoted-text}
+use Rattle.yaml_lexeme.specs.Quoted.{Mode, Quote, blanks-of, chars-of, escape-turn, folds-to, joined, quote-char, quoted-blank, quoted-char, quoted-line, quoted-run, quoted-text}
 use Rattle.chars.specs.Bytes.{peek-char}
 use Rattle.chars.specs.Reach.{Reach, more, none}
-use Rattle.quoted.specs.Texts.{quote-by, special, text-char}
-use Rattle.quoted.proofs.Runs.{before-both, before-none, behind, run-text}
+use Rattle.chars.specs.Ascii.{Ascii, _or_, apart, range}
+use Rattle.quoted.specs.Texts.{inner, ordinary, quote-by, special, text-char, words}
+use Rattle.quoted.proofs.Runs.{before-both, before-none, behind, run-blank, run-folded, run-text}
 
 -- a character of one byte that is no break
 abbrev pub Low : ℕ → Type 0
@@ -99,15 +100,79 @@ run-plain q m c cs e =
     let f = none-of (isBlank c) (isBreak c) (eqb c (quote-by (q .single))) (not (q .single) && eqb c backslash) (not-true _ e) in
     run-other q m c cs (f .0) (f .1) (f .2) (f .3)
 
+pub ordinary-ascii : Ascii ordinary
+unfolding ordinary
+ordinary-ascii = range 40 91 tt tt or range 93 127 tt tt
+
+pub ordinary-plain : (single : Bool) (c : ℕ) → ordinary c ≡ true → special single c ≡ false
+unfolding ordinary special isBlank isBreak
+ordinary-plain true = apart (special true) ordinary-ascii tt
+ordinary-plain false = apart (special false) ordinary-ascii tt
+
+ordinary-text : (o : ℕ) → ordinary o ≡ true → (isBlank o ≡ false) × (isBreak o ≡ false)
+unfolding special
+ordinary-text o e = let f = none-of (isBlank o) (isBreak o) (eqb o (quote-by true)) (not true && eqb o backslash) (ordinary-plain true o e) in (f .0, f .1)
+
+none-ordinary : ordinary 0 ≡ false
+unfolding ordinary
+none-ordinary = refl
+
+space-blank : isBlank space ≡ true
+unfolding isBlank
+space-blank = refl
+
+behind-none : (m : Mark) (cs : List ℕ) → isMarker (along m) cs ≡ false
+unfolding isMarker
+behind-none m cs = rw (ne-eqb (m .col + 1) 0 (omega arith))
+
+line-goes : (q : Quote) (b : Mode) (m : Mark) (c : ℕ) (cs : List ℕ) → isMarker m (c ∷ cs) ≡ false → ltb (edge-of m) (q .indent) ≡ false
+    → quoted-line q b m c cs ≡ quoted-char q (folds-to b) c cs
+unfolding quoted-line
+line-goes q b m c cs e f = rw (e, f, quoted-line)
+
+-- a space, before what stands for itself and is not below the indent
+run-space : (q : Quote) (m : Mark) (cs : List ℕ) → ordinary (peek cs 0) ≡ true → q .indent ≤ edge-of m
+    → quoted-run q chars-of 0 m (space ∷ cs) ≡ before-read (space ∷ []) (quoted-run q chars-of 0 (along m) cs)
+unfolding quoted-blank quoted-text folds-to
+run-space q m [] e h = true-false (sym e ∙ none-ordinary)
+run-space q m (o ∷ cs) e h =
+    let f = ordinary-text o e in
+    let i : q .indent ≤ m .col + 1 + 1 = omega arith in
+    run-blank q chars-of m space (o ∷ cs) space-blank
+    ∙ before-none (quoted-run q (blanks-of (space ∷ [])) 0 (along m) (o ∷ cs))
+    ∙ run-folded q (blanks-of (space ∷ [])) (along m) o cs (space ∷ []) (f .0) (f .1)
+    (line-goes q (blanks-of (space ∷ [])) (along m) o cs (behind-none m (o ∷ cs)) (le-ltb (m .col + 1 + 1) (q .indent) i))
+
 -- a run of text
-pub run-word : (q : Quote) (m : Mark) (cs : List ℕ) → let w = word (text-char (q .single)) m cs in
-    quoted-run q chars-of 0 m cs ≡ before-read (w .text) (quoted-run q chars-of 0 (w .place .mark) (w .place .rest))
-unfolding word
-run-word q m [] = sym (before-none (quoted-run q chars-of 0 m []))
-run-word q m (c ∷ cs) =
+pub words-more : (spaces single : Bool) (m : Mark) (c : ℕ) (cs : List ℕ) → (text-char single c || inner spaces c (peek cs 0)) ≡ true
+    → words spaces single m (c ∷ cs) ≡ before-run (c ∷ []) (words spaces single (along m) cs)
+unfolding words
+words-more spaces single m c cs e = rw (e, words)
+
+pub words-stop : (spaces single : Bool) (m : Mark) (c : ℕ) (cs : List ℕ) → (text-char single c || inner spaces c (peek cs 0)) ≡ false
+    → words spaces single m (c ∷ cs) ≡ nothing-at (here m (c ∷ cs))
+unfolding words
+words-stop spaces single m c cs e = rw (e, words)
+
+run-one : (q : Quote) (spaces : Bool) (m : Mark) (c : ℕ) (cs : List ℕ) → (spaces ≡ true → q .indent ≤ edge-of m)
+    → (text-char (q .single) c || inner spaces c (peek cs 0)) ≡ true
+    → quoted-run q chars-of 0 m (c ∷ cs) ≡ before-read (c ∷ []) (quoted-run q chars-of 0 (along m) cs)
+unfolding inner
+run-one q spaces m c cs h e =
     by-test (text-char (q .single) c)
-    (λ e. let w = word (text-char (q .single)) (along m) cs in
-    rw (word-more (text-char (q .single)) m c cs e)
-    (run-plain q m c cs e ∙ ap (before-read (c ∷ [])) (run-word q (along m) cs)
+    (λ t. run-plain q m c cs t)
+    (λ t. let i = both-true (spaces && eqb c space) (ordinary (peek cs 0)) (rw t at e) in
+    let j = both-true spaces (eqb c space) (i .0) in
+    rw (eqb-true c space (j .1)) (run-space q m cs (i .1) (h (j .0))))
+
+pub run-words : (q : Quote) (spaces : Bool) (m : Mark) (cs : List ℕ) → (spaces ≡ true → q .indent ≤ edge-of m) → let w = words spaces (q .single) m cs in
+    quoted-run q chars-of 0 m cs ≡ before-read (w .text) (quoted-run q chars-of 0 (w .place .mark) (w .place .rest))
+unfolding words
+run-words q spaces m [] h = sym (before-none (quoted-run q chars-of 0 m []))
+run-words q spaces m (c ∷ cs) h =
+    by-test (text-char (q .single) c || inner spaces c (peek cs 0))
+    (λ e. let w = words spaces (q .single) (along m) cs in
+    rw (words-more spaces (q .single) m c cs e)
+    (run-one q spaces m c cs h e ∙ ap (before-read (c ∷ [])) (run-words q spaces (along m) cs (λ t. let l = h t in omega arith))
     ∙ sym (before-both (c ∷ []) (w .text) (quoted-run q chars-of 0 (w .place .mark) (w .place .rest)))))
-    (λ e. rw (word-stop (text-char (q .single)) m c cs e) (sym (before-none (quoted-run q chars-of 0 m (c ∷ cs)))))
+    (λ e. rw (words-stop spaces (q .single) m c cs e) (sym (before-none (quoted-run q chars-of 0 m (c ∷ cs)))))

@@ -1,9 +1,12 @@
 -- The characters of a quoted scalar's text that stand for themselves.
 use Prim.Native.Nat.{ℕ}
-use mathlib.Core.Bool.{Bool, _&&_, _||_, not}
+use mathlib.Core.Bool.{Bool, _&&_, _||_, false, not, true}
+use mathlib.Core.List.{List, [], _∷_}
 use lib.Dec.{eqb, leb}
-use Rattle.yaml_text.specs.Char.{backslash, double-quote, single-quote}
-use Rattle.yaml_text.specs.Class.{isBlank, isBreak}
+use Rattle.yaml_text.specs.declared.Mark.{Mark}
+use Rattle.yaml_text.specs.Char.{backslash, double-quote, single-quote, space}
+use Rattle.yaml_text.specs.Class.{isBlank, isBreak, peek}
+use Rattle.yaml_text.specs.Mark.{Run, along, before-run, here, nothing-at}
 use Rattle.yaml_text.specs.Pick.{pick}
 
 -- the quote of a scalar
@@ -20,3 +23,16 @@ text-char single c = not (special single c)
 -- from ( to [, and from ] up
 unfoldable pub ordinary : ℕ → Bool
 ordinary b = (leb 40 b && leb b 91) || (leb 93 b && leb b 127)
+
+-- where spaces count: one before d, which stands for itself
+unfoldable pub inner : Bool → ℕ → ℕ → Bool
+inner spaces c d = spaces && eqb c space && ordinary d
+
+-- text that stands for itself, and single spaces in it where they count
+unfoldable pub words : Bool → Bool → Mark → List ℕ → Run
+words spaces single m [] = nothing-at (here m [])
+words spaces single m (c ∷ cs) =
+    elim (text-char single c || inner spaces c (peek cs 0)) [
+      | true ↦ before-run (c ∷ []) (words spaces single (along m) cs)
+      | false ↦ nothing-at (here m (c ∷ cs))
+    ]

@@ -1,9 +1,9 @@
 // One turn over a quoted scalar: a blank, a break, a run of characters, an escape or a quote.
-ghost use Prim.Native.Nat.{_<_, _^_};
+ghost use Prim.Native.Nat.{_+_, _<_, _^_, _≤_};
 ghost use mathlib.Core.Bool.{false};
 ghost use mathlib.Core.Path.{_≡_};
-ghost use lib.ListN.{drop};
-ghost use Rattle.yaml_text.specs.Mark.{break-length, word};
+ghost use lib.ListN.{drop, getD, length};
+ghost use Rattle.yaml_text.specs.Mark.{break-length};
 ghost use Rattle.yaml_text.specs.Utf8.{chars};
 ghost use Rattle.chars.specs.Bytes.{CharAt};
 ghost use Rattle.chars.specs.Parts.{Spans};
@@ -11,7 +11,7 @@ ghost use Rattle.chars.specs.View.{Small, Stands};
 ghost use Rattle.quoted.specs.declared.turns.End.the-variants.{Refused};
 ghost use Rattle.quoted.specs.declared.turns.Turned.the-variants.{Ends, Goes};
 ghost use Rattle.quoted.specs.Modes.{line-number, owed};
-ghost use Rattle.quoted.specs.Texts.{ordinary, quote-by, special, text-char};
+ghost use Rattle.quoted.specs.Texts.{inner, ordinary, quote-by, special, words};
 ghost use Rattle.quoted.specs.Written.{Sound, TextAt, Turns, blank-turned, break-turned, number-of, quote-of, text-turn};
 use crate::fold::Mode;
 use crate::fold::after_blank;
@@ -172,15 +172,29 @@ fn is_special(c: u32, single: bool) -> bool
     is_blank(c) | is_break(c) | (c == quote_char(single) as u32) | !single & (c == 92)
 }
 
-// The place behind the run of text here.
-fn text_end(text: &[u8], start: Place, single: bool) -> Place
+// Whether the byte b at a place is a space before text that stands for itself. spaces: whether any counts.
+fn is_inner(text: &[u8], at: usize, b: u8, spaces: bool) -> bool
+    requires { ⌜ at ≤ length (now text) ⌝ }
+    ensures { λ r. ⌜ r ≡ inner spaces b (getD (now (text .entry)) (at + 1) 0) ⌝ }
+{
+    if spaces & (b == 32) {
+        return is_ordinary(byte(text, at + 1));
+    }
+    false
+}
+
+// The place behind the run of text here, with the single spaces in it if they count.
+fn text_end(text: &[u8], start: Place, single: bool, spaces: bool) -> Place
     requires { ⌜ Stands (now text) start ⌝ }
-    ensures { λ r. ⌜ Spans (now (text .entry)) start r (word (text-char single) (start .mark) (chars (drop (start .at) (now (text .entry))))) ⌝ }
+    ensures { λ r. ⌜ Spans (now (text .entry)) start r (words spaces single (start .mark) (chars (drop (start .at) (now (text .entry))))) ⌝ }
 {
     let mut p = start;
     loop {
         let at = p.at;
-        if is_ordinary(byte(text, at)) {
+        let b = byte(text, at);
+        if is_ordinary(b) {
+            p = p.skip_blank();
+        } else if is_inner(text, at, b, spaces) {
             p = p.skip_blank();
         } else {
             let d = char_at(text, at);
@@ -208,7 +222,8 @@ fn on_char(text: &[u8], q: Quote, p: Place, n: usize, out: &mut [u8]) -> Turned
     if (c == 92) & !q.single {
         return on_backslash(text, q, p, n, out);
     }
-    let e = text_end(text, p, q.single);
+    // Blanks are held against the indent: not below it, a space in a line of text is text.
+    let e = text_end(text, p, q.single, q.indent <= p.mark.col + 1);
     let to = e.at;
     copy(out, n, &text[at..to]);
     goes(e, Mode::Chars, n + (to - at))

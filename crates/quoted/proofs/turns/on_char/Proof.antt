@@ -1,4 +1,7 @@
+use Prim.Native.Nat.{_+_}
 use mathlib.Core.Path.{_∙_, sym}
+use lib.Dec.{leb}
+use borrow.Author.Tests.{leb-true}
 use Rattle.quoted.proofs.Chosen.{backslash-there, quote-there, text-plain}
 use Rattle.quoted.proofs.Quotes.{run-turns}
 use borrow.Author.Needs.{needs}
@@ -29,6 +32,9 @@ same-length-2 c = search needs
 returns-2 : tie.Need-returns-2
 returns-2 c = search needs
 
+add-text-end : tie.Need-add-text-end
+add-text-end c = search needs
+
 text-end-requires : tie.Need-text-end-requires
 text-end-requires c κs = search needs
 
@@ -57,7 +63,16 @@ same-length-3 : tie.Need-same-length-3
 same-length-3 c = search needs
 
 returns-3 : tie.Need-returns-3
-returns-3 c = run-turns (c .before .before .before .before .before .before .before .before .before .before .before .before .before .before .pre .0) (c .before .before .before .before .before .before .before .before .before .before .before .before .before .before .pre .1 .is) (text-plain _ (c .before .before .before .before .before .before .before .before .before .before .before .before .before .before .pre .1) (c .before .before .before .before .before .before .before .before .before .before .before .byte .ensures) (λ e. c .before .before .before .before .before .before .before .before .before .if1 .left (e ∙ sym (c .before .before .before .before .before .before .before .before .before .before .quote-char .ensures))) (c .before .before .before .before .before .before .before .if2 .left)) (c .before .before .before .before .before .before .text-end .ensures) (c .before .before .before .copy .ensures) (c .goes .ensures)
+returns-3 c =
+    let e = c .before .before .before .before .before .before in
+    let f = e .before .before .before .before .before in
+    let b = f .before .before in
+    let s = b .before .before .before in
+    let q = s .args .q in
+    let m = s .args .p .mark in
+    run-turns (s .pre .0) (leb (q .indent) (m .col + 1)) (leb-true (q .indent) (m .col + 1)) (s .pre .1 .is)
+    (text-plain (q .single) (s .pre .1) (b .byte .ensures) (λ x. f .if1 .left (x ∙ sym (f .before .quote-char .ensures))) (e .before .before .before .if2 .left))
+    (e .text-end .ensures) (c .before .before .before .copy .ensures) (c .goes .ensures)
 
 pub on-char-spec : {M : Type 1} → statement M
 on-char-spec =
@@ -71,6 +86,7 @@ on-char-spec =
     on-backslash-requires
     same-length-2
     returns-2
+    add-text-end
     text-end-requires
     sub-copy
     part-copy-start
