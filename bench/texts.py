@@ -41,6 +41,8 @@ def texts(size):
         "dashes": repeated(lambda n: "-\n", size),
         "quoted-flow": repeated(lambda n: f'{{"name": "{word()}", "value": {n}, "sites": ["{word()}", "{word()}"]}}, ', size, "[", "1]\n"),
         "tags": repeated(lambda n: f"- !!{word()} &{word()} {word()}\n- *{word()}\n", size),
+        "commas": repeated(lambda n: ", ", size, "[a", "]\n"),
+        "one-quoted-scalar": repeated(lambda n: word() + " ", size, "'", "'\n"),
     }
 
 
