@@ -49,7 +49,7 @@ fn roll_at(limits: Limits, m: Mark, s: State, entries: &mut [u32]) -> Rolled
     roll(entries, limits.entries, m.col + 1, i)
 }
 
-// The one character here.
+// The one character at p; the place behind it is counted as p is.
 fn one_character(p: Place, kind: Kind) -> Lexeme
     requires { ⌜ Small p ⌝ }
     ensures { λ r. ⌜ r ≡ lexeme-one kind p ⌝ }
