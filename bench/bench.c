@@ -21,7 +21,7 @@ static long tokenglade(const char *text, size_t len) {
 
 static void lend(const char *text, size_t len, int full) {
     tokenglade(text, len);
-    words_len = full ? TOKENGLADE_WORDS(len) : (size_t)answer[4] * TOKENGLADE_RECORD;
+    words_len = full ? TOKENGLADE_WORDS(len) : (size_t)answer[4] * TOKENGLADE_RECORD_WORDS;
     bytes_len = full ? TOKENGLADE_BYTES(len) : answer[5];
     words = malloc(words_len * sizeof *words + 1);
     bytes = malloc(bytes_len + 1);

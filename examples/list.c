@@ -58,7 +58,7 @@ static int list(const uint8_t *text, size_t len) {
     if (answer[0])
         printf("refused (%u) at line %u, column %u: %s\n", answer[0], answer[2], answer[3] + 1, REFUSALS[answer[0]]);
     for (uint32_t i = 0; !answer[0] && i < answer[4]; i++)
-        print_token(words + (size_t)i * TOKENGLADE_RECORD, bytes);
+        print_token(words + (size_t)i * TOKENGLADE_RECORD_WORDS, bytes);
     free(words);
     free(bytes);
     return answer[0] ? 1 : 0;

@@ -13,12 +13,12 @@ extern "C" {
 }
 
 /// Words in a record.
-pub const RECORD: usize = 12;
+pub const RECORD_WORDS: usize = 12;
 
 /// Room that is always enough: words and bytes for a text. A byte that goes on with a character begins none.
 pub fn room(text: &[u8]) -> (usize, usize) {
     let characters = text.iter().filter(|b| **b & 0xC0 != 0x80).count();
-    ((2 * characters + 3) * RECORD, 3 * text.len() / 2)
+    ((2 * characters + 3) * RECORD_WORDS, 3 * text.len() / 2)
 }
 
 #[derive(Clone, Copy, Debug, PartialEq, Eq)]
@@ -115,7 +115,7 @@ pub fn scan_in<'a>(text: &[u8], words: &'a mut [u32], bytes: &'a mut [u8]) -> Re
         return Err(Refusal { number, mark, tokens, decoded });
     }
     let bytes = &bytes[..decoded as usize];
-    let records = words[..tokens as usize * RECORD].chunks_exact(RECORD);
+    let records = words[..tokens as usize * RECORD_WORDS].chunks_exact(RECORD_WORDS);
     Ok(records.map(move |record| Token { record, bytes }))
 }
 

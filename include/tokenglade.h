@@ -10,10 +10,10 @@ extern "C" {
 #endif
 
 /* Words in a record: kind, start (index, line, column), end, offset and length of the first text, of the second, style. */
-#define TOKENGLADE_RECORD 12
+#define TOKENGLADE_RECORD_WORDS 12
 
 /* Room that is always enough for a text of c characters (c <= b) and b bytes. */
-#define TOKENGLADE_WORDS(c) ((2 * (size_t)(c) + 3) * TOKENGLADE_RECORD)
+#define TOKENGLADE_WORDS(c) ((2 * (size_t)(c) + 3) * TOKENGLADE_RECORD_WORDS)
 #define TOKENGLADE_BYTES(b) (3 * (size_t)(b) / 2)
 
 /* Scans a text of any bytes into room of any length, and returns in every case.

@@ -13,8 +13,8 @@ static unsigned value(char c) {
 }
 
 static void print_records(uint32_t count) {
-    for (size_t i = 0; i < (size_t)count * TOKENGLADE_RECORD; i++)
-        printf("%s%u", i == 0 ? "" : i % TOKENGLADE_RECORD ? " " : ";", words[i]);
+    for (size_t i = 0; i < (size_t)count * TOKENGLADE_RECORD_WORDS; i++)
+        printf("%s%u", i == 0 ? "" : i % TOKENGLADE_RECORD_WORDS ? " " : ";", words[i]);
 }
 
 static void print_answer(const uint32_t a[6]) {

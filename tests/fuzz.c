@@ -6,8 +6,8 @@
 #include <string.h>
 #include "tokenglade.h"
 
-enum { LONGEST = 4096, GUARD = 64, RECORD = 12, MOST_TEXTS = 8192 };
-enum { WORDS = (2 * LONGEST + 3) * RECORD, BYTES = 3 * LONGEST / 2 };
+enum { LONGEST = 4096, GUARD = 64, MOST_TEXTS = 8192 };
+enum { WORDS = (2 * LONGEST + 3) * TOKENGLADE_RECORD_WORDS, BYTES = 3 * LONGEST / 2 };
 static const uint32_t WORD_GUARD = 0xA5A5A5A5;
 static const uint8_t BYTE_GUARD = 0x5A;
 
@@ -156,7 +156,7 @@ static void check_tokens(const struct room *r, const struct text *t) {
     size_t depth = 0;
     uint32_t end = 0, used = 0;
     for (uint32_t i = 0; i < r->answer[4]; i++) {
-        const uint32_t *w = r->words + GUARD + (size_t)i * RECORD;
+        const uint32_t *w = r->words + GUARD + (size_t)i * TOKENGLADE_RECORD_WORDS;
         if (w[0] < 1 || w[0] > 23)
             fail(t, "a kind is not one of 01's");
         if (w[1] < end || w[4] < w[1])
@@ -181,7 +181,7 @@ static size_t characters(const struct text *t) {
 // With room enough: neither 4 nor 5.
 static void check_whole(const struct text *t) {
     size_t c = characters(t);
-    scan(&whole, t, (2 * c + 3) * RECORD, 3 * t->len / 2);
+    scan(&whole, t, (2 * c + 3) * TOKENGLADE_RECORD_WORDS, 3 * t->len / 2);
     const uint32_t *a = whole.answer;
     if (a[0] != 0) {
         if (a[0] == 4 || a[0] == 5)
@@ -191,7 +191,7 @@ static void check_whole(const struct text *t) {
     }
     if (a[4] > 2 * c + 3 || 2 * (size_t)a[5] > 3 * t->len)
         fail(t, "more tokens or bytes than demand 3 allows");
-    check_zero(&whole, t, (size_t)a[4] * RECORD, a[5]);
+    check_zero(&whole, t, (size_t)a[4] * TOKENGLADE_RECORD_WORDS, a[5]);
     check_tokens(&whole, t);
 }
 
@@ -199,7 +199,7 @@ static void check_whole(const struct text *t) {
 static void check_part(const struct text *t, size_t words_len, size_t bytes_len) {
     const uint32_t *a = whole.answer;
     scan(&part, t, words_len, bytes_len);
-    uint32_t number = a[0] != 0 ? a[0] : words_len / RECORD < a[4] ? 4 : bytes_len < a[5] ? 5 : 0;
+    uint32_t number = a[0] != 0 ? a[0] : words_len / TOKENGLADE_RECORD_WORDS < a[4] ? 4 : bytes_len < a[5] ? 5 : 0;
     if (part.answer[0] != number || part.answer[4] != a[4] || part.answer[5] != a[5])
         fail(t, "another answer in another room");
     if (number != 0) {
@@ -209,22 +209,22 @@ static void check_part(const struct text *t, size_t words_len, size_t bytes_len)
         check_zero(&part, t, 0, 0);
         return;
     }
-    check_zero(&part, t, (size_t)a[4] * RECORD, a[5]);
-    if (memcmp(part.words + GUARD, whole.words + GUARD, (size_t)a[4] * RECORD * 4) || memcmp(part.bytes + GUARD, whole.bytes + GUARD, a[5]))
+    check_zero(&part, t, (size_t)a[4] * TOKENGLADE_RECORD_WORDS, a[5]);
+    if (memcmp(part.words + GUARD, whole.words + GUARD, (size_t)a[4] * TOKENGLADE_RECORD_WORDS * 4) || memcmp(part.bytes + GUARD, whole.bytes + GUARD, a[5]))
         fail(t, "other tokens in another room");
 }
 
 static void check(const struct text *t) {
     part.words_len = part.bytes_len = 0;
     check_whole(t);
-    size_t words = (size_t)whole.answer[4] * RECORD, bytes = whole.answer[5];
+    size_t words = (size_t)whole.answer[4] * TOKENGLADE_RECORD_WORDS, bytes = whole.answer[5];
     check_part(t, 0, 0);
-    check_part(t, below(words + 2 * RECORD), below(bytes + 4));
+    check_part(t, below(words + 2 * TOKENGLADE_RECORD_WORDS), below(bytes + 4));
     check_part(t, words, bytes);
     if (words)
         check_part(t, words - 1, bytes + below(4));
     if (bytes)
-        check_part(t, words + below(RECORD), bytes - 1);
+        check_part(t, words + below(TOKENGLADE_RECORD_WORDS), bytes - 1);
 }
 
 static int value(char c) {

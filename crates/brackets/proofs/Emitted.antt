@@ -1,99 +1,114 @@
--- The token of a bracket, with the blanks and comment behind it.
+-- The token of a bracket or ',': the code reads the blanks and comment from behind its own byte, as the definition does, and goes on there.
 use Prim.Native.Nat.{_+_, _^_, _<_, _≤_, ℕ}
-use mathlib.Core.Bool.{Bool}
+use mathlib.Core.Bool.{Bool, false, true}
 use mathlib.Core.List.{List, [], _++_, _∷_}
-use mathlib.Core.Path.{_∙_, _≡_, ap, refl, sym}
+use mathlib.Core.Path.{_∙_, _≡_, refl}
 use native.Mathlib.Omega.{arith}
-use lib.ListN.{drop, getD}
-use Rattle.yaml_text.specs.declared.Mark.{Mark}
+use lib.ListN.{getD}
 use Rattle.yaml_text.specs.declared.Refusal.{Refusal}
 use Rattle.yaml_text.specs.Mark.{along, skip-by}
-use Rattle.yaml_text.specs.Refusal.{_>>=_, got}
+use Rattle.yaml_text.specs.Pick.{pick}
+use Rattle.yaml_text.specs.Refusal.{Read, _>>=_, got, refused}
 use Rattle.yaml_lexeme.specs.declared.Kind as held
-use Rattle.yaml_lexeme.specs.Token.{FlowMappingEnd, Kind, lexeme}
+use Rattle.yaml_lexeme.specs.declared.Kind.the-variants as held-as
 use Rattle.yaml_lexeme.specs.Gap.{blanks-and-comment}
+use Rattle.yaml_lexeme.specs.Record.{laid}
+use Rattle.yaml_lexeme.specs.Token.{FlowEntry, FlowMappingEnd, FlowMappingStart, FlowSequenceEnd, FlowSequenceStart, Kind, kind-bytes, lexeme}
+use Rattle.yaml_scan.specs.declared.Limits.{Limits}
 use Rattle.yaml_scan.specs.Bracket.{scan-bracket}
-use Rattle.yaml_scan.specs.State.{empty-if, put}
+use Rattle.yaml_scan.specs.State.{News, empty-if, put}
+use Rattle.yaml_scan.specs.State as definition
 use Rattle.chars.specs.declared.mark.Place.{Place}
 use Rattle.chars.specs.Bytes.{byte-char}
-use Rattle.chars.specs.Places.{moves-along, stands-along}
+use Rattle.chars.specs.Places.{moves-along}
 use Rattle.chars.specs.Reach.{reach-one}
-use Rattle.chars.specs.View.{Stands, past, view}
+use Rattle.chars.specs.View.{Moves, Stands, past, view}
 use Rattle.reading.specs.declared.Reached.{Reached}
 use Rattle.reading.specs.declared.Reached.the-variants as reached
-use Rattle.reading.specs.Reading.{Reaches, first-at, seen-place}
-use Rattle.states.specs.declared.Brief.the-variants.{Goes, Refused}
+use Rattle.reading.specs.Reading.{Reaches, seen-place}
+use Rattle.stacks.specs.declared.indent.Indents.{Indents}
+use Rattle.stacks.specs.Indent.{Low}
+use Rattle.events.specs.declared.Counts.{Counts}
+use Rattle.events.specs.Event.{laid-events}
+use Rattle.events.specs.Laid.{Textless, laid-of-opening, laid-opening, laid-textless, opens-flow-end, textless-size}
 use Rattle.states.specs.declared.State.{State}
-use Rattle.states.specs.Goes.{fetch-quiet, fetch-refused}
-use Rattle.states.specs.Laid.{laid-opening, laid-textless, opens-flow-end, said-opening, textless-size}
-use Rattle.states.specs.Rest.{behind-stands, behind-view, rest-view}
-use Rattle.states.specs.Say.{laid-events}
-use Rattle.states.specs.State.{behind-of, state-of}
-use Rattle.brackets.specs.Emit.{AtBracket, Emits, emit-bracket, past-bracket, s-past}
+use Rattle.states.specs.Answer.{fetch-quiet}
+use Rattle.states.specs.Brief.{brief-fetched}
+use Rattle.states.specs.Fetch.{FetchesQuiet, OneByte}
+use Rattle.states.specs.State.{KeysLow, s-with-indents, s-with-level, state-of}
+use Rattle.brackets.specs.Emit.{emit-bracket, goes-past, past-bracket}
+
+-- the kinds, none of which has text
+
+pub opens : (sequence : Bool) → Textless (pick sequence FlowSequenceStart FlowMappingStart) (pick sequence held-as.FlowSequenceStart held-as.FlowMappingStart)
+unfolding laid kind-bytes
+opens true = record { same = λ used. refl; bytes = refl }
+opens false = record { same = λ used. refl; bytes = refl }
+
+pub closes : (sequence : Bool) → Textless (pick sequence FlowSequenceEnd FlowMappingEnd) (pick sequence held-as.FlowSequenceEnd held-as.FlowMappingEnd)
+unfolding laid kind-bytes
+closes true = record { same = λ used. refl; bytes = refl }
+closes false = record { same = λ used. refl; bytes = refl }
+
+pub comma : Textless FlowEntry held-as.FlowEntry
+unfolding laid kind-bytes
+comma = record { same = λ used. refl; bytes = refl }
 
 -- behind the bracket's own byte
-abbrev pub second : Mark → Place
-second m = past (first-at m) 1 (along m)
+abbrev pub second : Place → Place
+second p = past p 1 (along (p .mark))
 
 -- what is reached from there, over blanks and a comment
-abbrev pub Past : List ℕ → Mark → Reached → Type 0
-Past rest m r = Reaches rest (second m) r (blanks-and-comment (view rest (second m)))
+abbrev pub Past : List ℕ → Place → Reached → Type 0
+Past text p r = Reaches text (second p) r (blanks-and-comment (view text (second p)))
 
-module _ {rest : List ℕ} {p : Place} (h : AtBracket rest p) where
-  pub stands-second : Stands rest (second (p .mark))
-  stands-second = stands-along (h .stands) 1 1 (omega arith) (omega (arith, h))
+module _ {text : List ℕ} {p : Place} (h : Stands text p) (b : OneByte text p) where
+  moved : Moves text p (second p) (skip-by 1 (view text p))
+  moved = moves-along h 1 1 (reach-one (byte-char text (p .at) (getD text (p .at) 0) refl (b .some) (b .ascii)))
 
-  second-view : view rest (second (p .mark)) ≡ skip-by 1 (view rest (first-at (p .mark)))
-  second-view =
-      moves-along (h .stands) 1 1 (reach-one (byte-char rest 0 (getD rest 0 0) refl (omega (arith, h)) (h .ascii))) .same
+  pub stands-second : Stands text (second p)
+  stands-second = moved .stands
 
-  -- it is what the definition reads
-  scanned : {r : Reached} → Past rest (p .mark) r → (text : List ℕ) → rest ≡ drop (p .at) text → (k : Kind)
-      → scan-bracket k (view text p) ≡ (seen-place rest r >>= λ e. got (lexeme k (p .mark) (e .mark) e))
-  unfolding scan-bracket
-  scanned w text e k =
-      let f : skip-by 1 (view text p) ≡ view rest (second (p .mark)) = ap (skip-by 1) (sym (rest-view text p e)) ∙ sym second-view in
-      rw (f, w .same)
+  module _ {r : Reached} (w : Past text p r) where
+    -- it is what the definition reads
+    scanned : (k : Kind) → scan-bracket k (view text p) ≡ (seen-place text r >>= λ e. got (lexeme k (p .mark) (e .mark) e))
+    unfolding scan-bracket
+    scanned k = rw (← moved .same, w .same)
 
-  -- a place stands in the text, with its mark
-  module _ {r : Reached} {next : Place} (q : r ≡ reached.To next) (w : Past rest (p .mark) r) where
-    pub past-stands : Stands rest next × (1 ≤ next .at)
-    past-stands = let o = rw q at (w .onward) in (o .0, omega (arith, o .1))
+    pub emits-refused : {f : Refusal} → r ≡ reached.Refused f → (k : Kind) (implicit last : Bool) (x : definition.State) → x .place ≡ view text p
+        → emit-bracket k implicit last x ≡ refused (f .number) (f .mark)
+    unfolding emit-bracket seen-place _>>=_
+    emits-refused q k implicit last x v = rw (v, scanned k, q)
 
-    pub past-fits : p .at + next .at < 2 ^ 63
-    past-fits = omega (arith, h, past-stands .0)
+    -- the place that is reached
+    module _ {next : Place} (q : r ≡ reached.To next) where
+      pub past-stands : Stands text next × (p .at + 1 ≤ next .at)
+      past-stands = rw q at (w .onward)
 
-    pub past-index : next .mark .index < 2 ^ 31
-    past-index = omega (arith, past-stands .0)
+      pub past-index : next .mark .index < 2 ^ 31
+      past-index = omega (arith, past-stands .0)
 
-module _ {rest : List ℕ} (s : State) (h : AtBracket rest (s .place)) {r : Reached} (w : Past rest (s .place .mark) r) (implicit : Bool) (c : held.Kind) (closes : Bool) where
-  pub emits-refused : {f : Refusal} → r ≡ reached.Refused f → Emits rest implicit c s closes (Refused f)
-  unfolding emit-bracket seen-place _>>=_
-  emits-refused q =
-      record { quiet = λ k z limits text frames es fs count used s₀ d sane same. fetch-refused (rw (scanned h w text d k, q)) }
-
-  pub emits-to : {next p : Place} {t : State} → r ≡ reached.To next → p ≡ behind-of (s .place) next → t ≡ s-past s p closes
-      → Emits rest implicit c s closes (Goes t implicit (record { kind = c; start = s .place .mark; end = next .mark }))
-  unfolding emit-bracket seen-place _>>=_ laid-events
-  emits-to {next} q a b =
-      record {
-        quiet = λ k z limits text frames es fs count used s₀ d sane same.
-            let m = s .place .mark in
-            let token = put (record { kind = k; start = m; end = next .mark }) ∷ [] in
-            let on = past-stands h q w in
-            let there = ap (λ (p : Place). p .at) same in
-            let none = textless-size z in
-            rw (b, a)
-            (fetch-quiet (empty-if implicit FlowMappingEnd m ++ token)
-            (said-opening _ _ _ ∙ rw (laid-opening opens-flow-end used m token implicit, laid-textless z used m (next .mark) []))
-            (past-bracket (view rest next) closes (state-of text es fs count s))
-            (rw (scanned h w text d k, q))
-            (rw (behind-view text (s .place) d next))
-            (record {
-              sane = record { stands = behind-stands text (s .place) d (sane .stands) (on .0); low = sane .low; deep = sane .deep; keys = sane .keys };
-              onward = omega arith;
-              size = omega arith;
-              closed = omega arith;
-            })
-            none);
-      }
+-- from the state s, behind the token with the indents i at the flow level l; from the words a to e, which are to be u
+pub emits-to : {limits : Limits} {text a e u : List ℕ} {n : Counts} {s : State} {i : Indents} {l : ℕ} {k : Kind} {c : held.Kind} {d : Read News} {r : Reached} {next : Place} (implicit last : Bool)
+    → Stands text (s .place) → OneByte text (s .place) → Past text (s .place) r → r ≡ reached.To next → Textless k c
+    → Low (limits .entries) 1_048_577 e i → l ≤ limits .levels → KeysLow e
+    → d ≡ emit-bracket k implicit last (state-of text e (n .count) (s-with-level (s-with-indents s i) l)) → e ≡ u
+    → FetchesQuiet limits text a e u n s d (brief-fetched (goes-past (s-with-level (s-with-indents s i) l) implicit c next last))
+unfolding emit-bracket seen-place _>>=_ laid-events
+emits-to {text = text} {e = e} {n = n} {s} {i} {l} {k} {next = next} implicit last h b w q z low deep keys tells words =
+    let m = s .place .mark in
+    let token = put (record { kind = k; start = m; end = next .mark }) ∷ [] in
+    let on = past-stands h b w q in
+    let none = textless-size z in
+    fetch-quiet (empty-if implicit FlowMappingEnd m ++ token)
+    (laid-of-opening _ _ _ ∙ rw (laid-opening opens-flow-end (n .used) m token implicit, laid-textless z (n .used) m (next .mark) []))
+    (past-bracket (view text next) last (state-of text e (n .count) (s-with-level (s-with-indents s i) l)))
+    (tells ∙ rw (scanned h b w k, q))
+    refl
+    (record {
+      sane = record { stands = on .0; low = low; deep = deep; keys = keys };
+      onward = on .1;
+      size = omega (arith, on .1);
+      closed = omega arith;
+    })
+    none words

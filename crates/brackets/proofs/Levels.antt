@@ -1,31 +1,46 @@
--- What the definition's three rules come to, by what was done to the frames.
-use Prim.Native.Nat.{_*_, _+_, _-_, _<_, _≤_, suc, zero, ℕ}
-use mathlib.Core.Bool.{Bool, Bool·beq, false, not, true}
-use mathlib.Core.List.{List}
+-- What the definition's three rules come to: they emit the token from a state whose level was opened, was closed, or has a new entry.
+use Prim.Native.Nat.{_+_, _-_, _<_, _^_, _≤_, suc, zero, ℕ}
+use mathlib.Core.Bool.{Bool, Bool·beq, _&&_, false, not, true}
+use mathlib.Core.List.{List, _∷_}
 use mathlib.Core.Path.{_∙_, _≡_, ap, refl, sym}
 use native.Mathlib.Omega.{arith}
-use lib.ListN.{length, set}
-use lib.Seq.{getD-set-other}
+use lib.Dec.{leb}
+use lib.ListN.{length}
 use borrow.Author.Tests.{le-ltb, lt-ltb}
+use Rattle.yaml_text.specs.declared.Refusal.{Refusal}
 use Rattle.yaml_text.specs.Pick.{pick}
 use Rattle.yaml_text.specs.Refusal.{_>>=_, need, refused}
+use Rattle.yaml_text.specs.Test.{by-test}
 use Rattle.yaml_lexeme.specs.Token.{FlowEntry, FlowMappingEnd, FlowMappingStart, FlowSequenceEnd, FlowSequenceStart}
 use Rattle.yaml_scan.specs.declared.Candidate.the-variants.{Absent}
 use Rattle.yaml_scan.specs.declared.Level.{Level}
 use Rattle.yaml_scan.specs.declared.Limits.{Limits}
-use Rattle.yaml_scan.specs.Bracket.{closes-level, fetch-flow-collection-end, fetch-flow-collection-start, fetch-flow-entry, has-level-room, implicit-open, new-level}
-use Rattle.yaml_scan.specs.State.{on-level}
+use Rattle.yaml_scan.specs.Bracket.{closes-level, fetch-flow-collection-end, fetch-flow-collection-start, fetch-flow-entry, has-level-room, implicit-open, new-entry, new-level}
+use Rattle.yaml_scan.specs.Indent.{top-ends}
+use Rattle.yaml_scan.specs.State.{in-flow, on-level, remove-key, save-key, with-indents, with-keys, with-levels}
+use Rattle.yaml_scan.specs.State as definition
 use Rattle.chars.specs.View.{Stands}
+use Rattle.reading.specs.declared.Reached.{Reached}
+use Rattle.reading.specs.declared.Reached.the-variants.{Refused}
 use Rattle.stacks.specs.declared.indent.Indents.{Indents}
-use Rattle.stacks.specs.declared.indent.Stacked.{Stacked}
-use Rattle.stacks.specs.declared.indent.Stacked.the-variants.{Full, Got}
-use Rattle.stacks.specs.Frame.{SetsKey, SetsLevel, frame-keys, frame-levels, is-required, key-of, level-of, with-level}
+use Rattle.stacks.specs.Frame.{SetsKey, SetsLevel, frame-keys, frame-levels, level-of, with-level}
+use Rattle.stacks.specs.Stack.{entry-words, stack-words}
+use Rattle.stacks.proofs.Entries.{entries-length, entries-stay-then}
 use Rattle.stacks.proofs.Levels.{keys-opened, levels-first, levels-opened}
 use Rattle.states.specs.declared.State.{State}
-use Rattle.states.specs.Key.{Removes, Saves, removed-words}
-use Rattle.states.specs.Seen.{low-key, low-level}
-use Rattle.states.specs.State.{KeysLow, key-mark, s-with-depth, s-with-indents, state-of}
-use Rattle.brackets.specs.Emit.{OpensLevel, StacksBracket, emit-bracket}
+use Rattle.states.specs.Fetch.{OneByte, Ready}
+use Rattle.states.specs.Key.{Removes, Saves}
+use Rattle.states.specs.Seen.{in-flow-seen, low-frames, low-key, low-level}
+use Rattle.states.specs.State.{KeysLow, key-mark, s-with-indents, s-with-level, state-of}
+use Rattle.brackets.specs.Emit.{emit-bracket}
+use Rattle.brackets.specs.Words.{OpensLevel, StacksBracket, bracket-indents, bracket-words, comma-words, stacks-entry}
+use Rattle.brackets.proofs.Emitted.{Past, emits-refused}
+use Rattle.brackets.proofs.Entry.{stacks-full, stacks-room}
+
+-- what `save_key` and `remove_key` ask for
+pub ready-key : {limits : Limits} {text a : List ℕ} {s : State} → Ready limits text a s
+    → (s .«flow_level» ≤ 255) × (s .indents .depth ≤ entry-words) × (stack-words ≤ length a) × (s .place .mark .col < 2 ^ 31)
+ready-key y = (omega (arith, y .deep, y .lent), omega (arith, y .low, y .lent), y .lent .room, omega (arith, y .stands))
 
 levels-count : (a : List ℕ) (d : ℕ) → length (frame-levels a d) ≡ d
 unfolding frame-levels
@@ -33,42 +48,91 @@ levels-count a zero = refl
 levels-count a (suc d) = ap suc (levels-count a d)
 
 -- a level that is opened
-pub opens-level : {a b e : List ℕ} {l m : Level} (d : ℕ) → SetsKey a b (d + 1) Absent → SetsLevel b e (d + 1) m → m ≡ l → OpensLevel a e d l
+pub opens-level : {a b e : List ℕ} {l m : Level} (level : ℕ) → SetsKey a b (level + 1) Absent → SetsLevel b e (level + 1) m → m ≡ l → OpensLevel a e level l
 unfolding key-mark
-opens-level d k w q =
-    record { keys = keys-opened d refl k w; levels = levels-opened d refl k w ∙ rw q; low = λ h. low-level w (low-key k h (omega arith)) }
+opens-level level k w q =
+    record {
+      words = w .words ∙ rw (q, k .words);
+      keys = keys-opened level refl k w;
+      levels = levels-opened level refl k w ∙ rw q;
+      entries = entries-stay-then (k .entries) (w .entries);
+      low = λ h. low-level w (low-key k h (omega arith));
+    }
 
--- behind a candidate that was saved
-pub opens-low : {text entries a e g : List ℕ} {count d : ℕ} {s : State} {l : Level} → Saves entries a e count s → OpensLevel e g d l → Stands text (s .place)
-    → KeysLow a → KeysLow g
-opens-low k o h low = o .low (k .low low (omega (arith, h)))
+-- saving the candidate changes the candidates only
 
--- '[' or '{', behind the candidate and the entry
-module _ (sequence : Bool) (text : List ℕ) {limits : Limits} {entries a : List ℕ} {count : ℕ} {s : State} {e es : List ℕ} {r : Stacked}
-    (k : Saves entries a e count s) (w : StacksBracket limits entries es s r) where
-  pub start-full : r ≡ Full → fetch-flow-collection-start limits sequence (state-of text entries a count s) ≡ refused 48 (s .place .mark)
+module _ (x : definition.State) where
+  save-keys : save-key x ≡ with-keys (save-key x .keys) x
+  unfolding save-key
+  save-keys = by-test (x .simple-key-allowed) (λ e. rw e) (λ e. rw e)
+
+  saved-place : save-key x .place ≡ x .place
+  saved-place = ap (λ (y : definition.State). y .place) save-keys
+
+  saved-levels : save-key x .levels ≡ x .levels
+  saved-levels = ap (λ (y : definition.State). y .levels) save-keys
+
+  saved-indents : save-key x .indents ≡ x .indents
+  saved-indents = ap (λ (y : definition.State). y .indents) save-keys
+
+  saved-flow : in-flow (save-key x) ≡ in-flow x
+  unfolding in-flow
+  saved-flow = rw saved-levels
+
+-- '[' or '{'
+
+-- the definition's state with the entry and the level, of y
+abbrev pub opened-from : Bool → Bool → definition.State → definition.State
+opened-from sequence entry y = with-keys (Absent ∷ y .keys) (with-levels (new-level sequence ∷ y .levels) (with-indents (bracket-indents entry (y .indents)) y))
+
+module _ (limits : Limits) (sequence : Bool) (text a : List ℕ) (count : ℕ) (s : State) {entry : Bool} (q : entry ≡ stacks-entry a s) where
+  abbrev x : definition.State
+  x = state-of text a count s
+
+  tested : (not (in-flow (save-key x)) && top-ends (save-key x .indents .entries)) ≡ entry
+  unfolding stacks-entry
+  tested = rw (saved-flow x, in-flow-seen text a count s, saved-indents x) (sym q)
+
+  counted : {b : Bool} → (entry && leb (limits .entries) (s .indents .depth)) ≡ b → (entry && leb (limits .entries) (length (save-key x .indents .entries))) ≡ b
+  counted h = rw (saved-indents x, entries-length a (s .indents .depth)) h
+
+  pub start-full : (entry && leb (limits .entries) (s .indents .depth)) ≡ true → fetch-flow-collection-start limits sequence x ≡ refused 48 (s .place .mark)
   unfolding fetch-flow-collection-start _>>=_
-  start-full q = rw (← k .same text, w .same text e count, q)
+  start-full h = rw (stacks-full limits (save-key x) entry tested (counted h), saved-place x)
 
-  module _ {i : Indents} (q : r ≡ Got i) where
-    pub start-deep : limits .levels ≤ s .depth
-        → fetch-flow-collection-start limits sequence (state-of text entries a count s) ≡ refused 28 (s .place .mark)
+  module _ (h : (entry && leb (limits .entries) (s .indents .depth)) ≡ false) where
+    pub start-deep : limits .levels ≤ s .«flow_level» → fetch-flow-collection-start limits sequence x ≡ refused 28 (s .place .mark)
     unfolding fetch-flow-collection-start has-level-room need _>>=_
-    start-deep h =
-        rw (← k .same text, w .same text e count, q, levels-count e (s .depth), le-ltb (s .depth) (limits .levels) h)
+    start-deep l =
+        rw (stacks-room limits (save-key x) entry tested (counted h), saved-levels x, levels-count a (s .«flow_level»), le-ltb (s .«flow_level») (limits .levels) l, saved-place x)
 
-    pub start-goes : {g : List ℕ} → s .depth < limits .levels → OpensLevel e g (s .depth) (new-level sequence)
-        → fetch-flow-collection-start limits sequence (state-of text entries a count s)
-        ≡ emit-bracket (pick sequence FlowSequenceStart FlowMappingStart) false false
-        (state-of text es g count (s-with-depth (s-with-indents s i) (s .depth + 1)))
+    pub start-emits : s .«flow_level» < limits .levels → fetch-flow-collection-start limits sequence x
+        ≡ emit-bracket (pick sequence FlowSequenceStart FlowMappingStart) false false (opened-from sequence entry (save-key x))
     unfolding fetch-flow-collection-start has-level-room need _>>=_ emit-bracket
-    start-goes h l =
-        rw (← k .same text, w .same text e count, q, levels-count e (s .depth), lt-ltb (s .depth) (limits .levels) h, l .keys, l .levels)
+    start-emits l =
+        let o : length (save-key x .levels) ≡ s .«flow_level» = rw (saved-levels x) (levels-count a (s .«flow_level»)) in
+        rw (stacks-room limits (save-key x) entry tested (counted h), o, lt-ltb (s .«flow_level») (limits .levels) l)
 
--- a candidate that goes leaves its level
-level-stays : (a : List ℕ) (s : State) (b : Bool) → level-of (pick b a (set a (s .depth * 6) 0)) (s .depth) ≡ level-of a (s .depth)
-level-stays a s true = refl
-level-stays a s false = rw (getD-set-other a (s .depth * 6) (s .depth * 6 + 5) 0 0 (omega arith))
+    pub start-refused : {r : Reached} {f : Refusal} → s .«flow_level» < limits .levels → Stands text (s .place) → OneByte text (s .place) → Past text (s .place) r → r ≡ Refused f
+        → fetch-flow-collection-start limits sequence x ≡ refused (f .number) (f .mark)
+    start-refused l g b w e =
+        start-emits l ∙ emits-refused g b w e (pick sequence FlowSequenceStart FlowMappingStart) false false (opened-from sequence entry (save-key x)) (saved-place x)
+
+-- by what the code did to the words: from a to b, c and e
+module _ {limits : Limits} {sequence entry : Bool} {a b c e : List ℕ} {count : ℕ} {s : State} {i : Indents}
+    (k : Saves a b count s) (w : StacksBracket limits entry b c s i) (o : OpensLevel c e (s .«flow_level») (new-level sequence)) where
+  pub start-state : i .depth ≤ entry-words → (text : List ℕ)
+      → opened-from sequence entry (save-key (state-of text a count s)) ≡ state-of text e count (s-with-level (s-with-indents s i) (s .«flow_level» + 1))
+  start-state h text =
+      rw (← k .same text, o .keys, o .levels, o .entries .entries (i .depth) h, w .frames .keys (suc (s .«flow_level»)), w .frames .levels (s .«flow_level»), ← w .same)
+
+  pub start-low : KeysLow a → s .place .mark .col ≤ 1_048_576 → KeysLow e
+  start-low h g = o .low (low-frames (w .frames) (k .low h g))
+
+  pub start-words : entry ≡ stacks-entry a s → e ≡ bracket-words sequence a count s
+  start-words q = o .words ∙ rw (w .words, k .words, q)
+
+-- ']' or '}'
 
 kind-by : (sequence b : Bool) → pick sequence b (not b) ≡ not (not (Bool·beq b sequence))
 kind-by true true = refl
@@ -76,45 +140,53 @@ kind-by true false = refl
 kind-by false true = refl
 kind-by false false = refl
 
--- ']' or '}'
-module _ (sequence : Bool) (text entries a : List ℕ) (count : ℕ) (s : State) where
-  pub end-none : s .depth ≡ 0 → fetch-flow-collection-end sequence (state-of text entries a count s) ≡ refused 47 (s .place .mark)
+module _ (sequence : Bool) (text a : List ℕ) (count : ℕ) (s : State) where
+  pub end-none : s .«flow_level» ≡ 0 → fetch-flow-collection-end sequence (state-of text a count s) ≡ refused 47 (s .place .mark)
   unfolding fetch-flow-collection-end closes-level frame-levels need _>>=_
   end-none h = rw h
 
   -- in flow, by the innermost level
-  module _ {l : Level} (n : s .depth ≡ 0 → ⊥) (top : l ≡ level-of a (s .depth)) where
-    closes-by : closes-level sequence (frame-levels a (s .depth)) ≡ not (not (Bool·beq (l .sequence) sequence))
+  module _ {l : Level} (n : s .«flow_level» ≡ 0 → ⊥) (top : l ≡ level-of a (s .«flow_level»)) where
+    closes-by : closes-level sequence (frame-levels a (s .«flow_level»)) ≡ not (not (Bool·beq (l .sequence) sequence))
     unfolding closes-level
-    closes-by = rw (levels-first a (s .depth) (omega arith), ← top) (kind-by sequence (l .sequence))
+    closes-by = rw (levels-first a (s .«flow_level») (omega arith), ← top) (kind-by sequence (l .sequence))
 
     pub end-other : not (Bool·beq (l .sequence) sequence) ≡ true
-        → fetch-flow-collection-end sequence (state-of text entries a count s) ≡ refused 47 (s .place .mark)
+        → fetch-flow-collection-end sequence (state-of text a count s) ≡ refused 47 (s .place .mark)
     unfolding fetch-flow-collection-end need _>>=_
     end-other f = rw (closes-by, f)
 
-    module _ {e : List ℕ} {r : Bool} (f : not (Bool·beq (l .sequence) sequence) ≡ false) (w : Removes a e s r) where
-      pub end-required : r ≡ false → fetch-flow-collection-end sequence (state-of text entries a count s) ≡ refused 41 (s .place .mark)
-      unfolding fetch-flow-collection-end need _>>=_
-      end-required q = rw (closes-by, f, w .same text entries count, q)
+    -- its candidate goes with its level
+    pub end-emits : not (Bool·beq (l .sequence) sequence) ≡ false
+        → fetch-flow-collection-end sequence (state-of text a count s)
+        ≡ emit-bracket (pick sequence FlowSequenceEnd FlowMappingEnd) (l .implicit) true (state-of text a count (s-with-level s (s .«flow_level» - 1)))
+    unfolding fetch-flow-collection-end implicit-open remove-key frame-keys need _>>=_ emit-bracket
+    end-emits f =
+        let d : s .«flow_level» ≡ suc (s .«flow_level» - 1) = omega arith in
+        rw (closes-by, f, levels-first a (s .«flow_level») (omega arith), ← top, ap (frame-keys a) d)
 
-      pub end-goes : r ≡ true → fetch-flow-collection-end sequence (state-of text entries a count s)
-          ≡ emit-bracket (pick sequence FlowSequenceEnd FlowMappingEnd) (l .implicit) true
-          (state-of text entries e count (s-with-depth s (s .depth - 1)))
-      unfolding fetch-flow-collection-end implicit-open frame-keys need _>>=_ emit-bracket removed-words
-      end-goes q =
-          let d : s .depth ≡ suc (s .depth - 1) = omega arith in
-          let m : level-of e (s .depth) ≡ l = rw (w .words) (level-stays a s (is-required (key-of a (s .depth)))) ∙ sym top in
-          rw (closes-by, f, w .same text entries count, q, levels-first e (s .depth) (omega arith), m, ap (frame-keys e) d)
+    pub end-refused : {r : Reached} {g : Refusal} → not (Bool·beq (l .sequence) sequence) ≡ false → Stands text (s .place) → OneByte text (s .place) → Past text (s .place) r → r ≡ Refused g
+        → fetch-flow-collection-end sequence (state-of text a count s) ≡ refused (g .number) (g .mark)
+    end-refused f h b w e =
+        end-emits f ∙ emits-refused h b w e (pick sequence FlowSequenceEnd FlowMappingEnd) (l .implicit) true (state-of text a count (s-with-level s (s .«flow_level» - 1))) refl
 
 -- ','
-module _ (text entries : List ℕ) (count : ℕ) {a : List ℕ} {s : State} {e : List ℕ} {r : Bool} (w : Removes a e s r) where
-  pub entry-required : r ≡ false → fetch-flow-entry (state-of text entries a count s) ≡ refused 41 (s .place .mark)
-  unfolding fetch-flow-entry _>>=_
-  entry-required q = rw (w .same text entries count, q)
 
-  pub entry-goes : {f : List ℕ} {l m : Level} → r ≡ true → 0 < s .depth → l ≡ level-of e (s .depth) → SetsLevel e f (s .depth) m → m ≡ new-level (l .sequence)
-      → fetch-flow-entry (state-of text entries a count s) ≡ emit-bracket FlowEntry (l .implicit) false (state-of text entries f count s)
+module _ {text : List ℕ} (a : List ℕ) (count : ℕ) (s : State) where
+  pub entry-refused : {r : Reached} {f : Refusal} → Stands text (s .place) → OneByte text (s .place) → Past text (s .place) r → r ≡ Refused f
+      → fetch-flow-entry (state-of text a count s) ≡ refused (f .number) (f .mark)
+  unfolding fetch-flow-entry remove-key emit-bracket
+  entry-refused h b w e =
+      let x = state-of text a count s in
+      emits-refused h b w e FlowEntry (implicit-open (x .levels)) false (with-levels (new-entry (x .levels)) (remove-key x)) refl
+
+-- by what the code did to the words: from a to b and e
+module _ {a b e : List ℕ} {s : State} {l m : Level} (w : Removes a b s) (top : l ≡ level-of b (s .«flow_level»)) (v : SetsLevel b e (s .«flow_level») m) (new : m ≡ new-level (l .sequence)) where
+  pub entry-goes : s .indents .depth ≤ entry-words → 0 < s .«flow_level» → (text : List ℕ) (count : ℕ)
+      → fetch-flow-entry (state-of text a count s) ≡ emit-bracket FlowEntry (l .implicit) false (state-of text e count s)
   unfolding fetch-flow-entry implicit-open on-level with-level _>>=_ emit-bracket
-  entry-goes q h top v new =
-      rw (w .same text entries count, q, v .levels, v .keys (suc (s .depth)), levels-first e (s .depth) h, new, top)
+  entry-goes d h text count =
+      rw (← w .same text count, v .levels, v .keys (suc (s .«flow_level»)), v .entries .entries (s .indents .depth) d, levels-first b (s .«flow_level») h, new, top)
+
+  pub entry-words-left : e ≡ comma-words a s
+  entry-words-left = v .words ∙ rw (new, top, w .sets .level (s .«flow_level»), w .words)

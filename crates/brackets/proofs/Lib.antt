@@ -1,5 +1,4 @@
 pub mod Line
 pub mod Emitted
-pub mod Stacked
+pub mod Entry
 pub mod Levels
-pub mod Answers

@@ -6,7 +6,7 @@ use mathlib.Core.Path.{_∙_, _≡_, refl, sym}
 use lib.Dec.{eqb}
 use lib.ListN.{getD}
 use Rattle.yaml_text.specs.Char.{'#'}
-use Rattle.yaml_text.specs.Class.{isBlank}
+use Rattle.yaml_text.specs.Class.{is-blank}
 use Rattle.yaml_text.specs.Test.{true-false}
 use Rattle.yaml_lexeme.specs.Gap.{blanks-and-comment}
 use Rattle.chars.specs.declared.mark.Place.{Place}
@@ -24,7 +24,7 @@ neither true b e = true-false e
 neither false b e = (refl, e)
 
 -- by the byte b there
-pub reaches-here : {text : List ℕ} {p : Place} {b : ℕ} {blank : Bool} → Stands text p → b ≡ getD text (p .at) 0 → blank ≡ isBlank b → (blank || eqb b '#') ≡ false
+pub reaches-here : {text : List ℕ} {p : Place} {b : ℕ} {blank : Bool} → Stands text p → b ≡ getD text (p .at) 0 → blank ≡ is-blank b → (blank || eqb b '#') ≡ false
     → Reaches text p (To p) (blanks-and-comment (view text p))
 unfolding blanks-and-comment
 reaches-here {text} {p} {b} {blank} h e f n =

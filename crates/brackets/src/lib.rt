@@ -1,5 +1,5 @@
 // K6: brackets and ','.
-ghost use Prim.Native.Nat.{_*_, _+_, _<_, _^_, _≤_};
+ghost use Prim.Native.Nat.{_<_, _^_, _≤_};
 ghost use mathlib.Core.Path.{_≡_};
 ghost use lib.ListN.{length};
 ghost use Rattle.yaml_text.specs.Pick.{pick};
@@ -8,32 +8,33 @@ ghost use Rattle.yaml_lexeme.specs.Gap.{blanks-and-comment};
 ghost use Rattle.yaml_scan.specs.Bracket.{fetch-flow-collection-end, fetch-flow-collection-start, fetch-flow-entry, new-level};
 ghost use Rattle.chars.specs.View.{Stands, view};
 ghost use Rattle.reading.specs.Reading.{Reaches};
-ghost use Rattle.stacks.specs.Indent.{Low};
-ghost use Rattle.states.specs.declared.Brief.the-variants as brief;
+ghost use Rattle.stacks.specs.Stack.{stack-words};
+ghost use Rattle.events.specs.declared.Counts as counts;
 ghost use Rattle.states.specs.Brief.{brief-fetched};
-ghost use Rattle.states.specs.Fetch.{FetchesRest, Ready};
-ghost use Rattle.brackets.specs.Emit.{AtBracket, Emits, FetchesFlow, OpensLevel, StacksBracket, s-past};
+ghost use Rattle.states.specs.Fetch.{FetchesQuiet, OneByte, Ready};
+ghost use Rattle.states.specs.State.{state-of};
+ghost use Rattle.brackets.specs.Emit.{goes-past, s-past};
+ghost use Rattle.brackets.specs.Words.{Fits, OpensLevel, StacksBracket, bracket-words, comma-words, stacks-entry};
 use chars::class::is_blank;
 use chars::mark::Place;
+use events::Counts;
 use gaps::blanks_and_comment;
 use reading::Reached;
 use stacks::frame::clear_key;
-use stacks::frame::level;
+use stacks::frame::level_data;
 use stacks::frame::set_level;
-use stacks::indent::Stacked;
-use stacks::indent::stack;
+use stacks::indent::Indents;
+use stacks::indent::full;
+use stacks::indent::push;
 use stacks::indent::top_ends;
 use states::Brief;
 use states::State;
-use states::behind;
 use states::refuse_brief;
 use utf8::byte;
 use yaml_lexeme::Kind;
 use yaml_lexeme::Token;
 use yaml_scan::Level;
 use yaml_scan::Limits;
-use yaml_text::Mark;
-use yaml_text::Refusal;
 
 // A fresh entry of a level.
 fn new_level(sequence: bool) -> Level
@@ -66,48 +67,52 @@ fn rest_of_line(text: &[u8], start: Place) -> Reached
 {
     let from = start.at;
     let c = byte(text, from);
-    if is_blank(c as u32) | (c == 35) {
+    if is_blank(c as u32) | (c == b'#') {
         return blanks_and_comment(text, start);
     }
     Reached::To(start)
 }
 
-// The character here, with the blanks and comment behind it, and on from behind them.
-fn emit_bracket(text: &[u8], pair: bool, kind: Kind, s: State, closes: bool) -> Brief
-    requires { ⌜ AtBracket (now text) (s .place) ⌝ }
-    ensures { λ r. ⌜ Emits (now (text .entry)) pair kind s closes r ⌝ }
+// Behind a bracket or ',' with its blanks and comment: the state, and the token.
+fn past(s: State, pair: bool, kind: Kind, next: Place, closes: bool) -> Brief
+    requires { ⌜ next .mark .index < 2 ^ 31 ⌝ }
+    ensures { λ r. ⌜ r ≡ goes-past s pair kind next closes ⌝ }
 {
-    let p = s.place;
-    let start = p.mark;
-    let first = Place { at: 0, mark: start };
-    let r = rest_of_line(text, first.skip_blank());
-    match r {
-        Reached::Refused(f) => Brief::Refused(f),
-        Reached::To(next) => {
-            let end = next.mark;
-            let t = Token {
-                kind: kind,
-                start: start,
-                end: end,
-            };
-            Brief::Goes(past_bracket(s, behind(p, next), closes), pair, t)
-        }
+    let start = s.place.mark;
+    let end = next.mark;
+    let t = Token {
+        kind: kind,
+        start: start,
+        end: end,
+    };
+    Brief::Goes {
+        state: past_bracket(s, next, closes),
+        pair: pair,
+        token: t,
     }
 }
 
-// At level 0, while the top entry ends in BlockEnd, a non-ending entry with indent + 1 is stacked.
-fn stack_bracket(limits: Limits, s: State, entries: &mut [u32]) -> Stacked
-    requires { ⌜ Low (limits .entries) 1_048_577 (now entries) (s .indents) × (limits .entries ≤ length (now entries)) × (limits .entries ≤ 255) ⌝ }
-    ensures { λ r. ⌜ StacksBracket limits (now (entries .entry)) (now (entries .exit)) s r ⌝ }
+// Whether K6 stacks an entry for a bracket here: at level 0, while the top entry ends in BlockEnd.
+fn needs_entry(s: State, stacks: &[u32]) -> bool
+    requires { ⌜ s .indents .depth ≤ length (now stacks) ⌝ }
+    ensures { λ r. ⌜ r ≡ stacks-entry (now (stacks .entry)) s ⌝ }
+{
+    if 0 < s.flow_level {
+        return false;
+    }
+    top_ends(stacks, s.indents.depth)
+}
+
+// The indents behind the bracket: a non-ending entry with indent + 1 is stacked, or none.
+fn stack_bracket(limits: Limits, entry: bool, s: State, stacks: &mut [u32]) -> Indents
+    requires { ⌜ Fits limits entry (now stacks) s ⌝ }
+    ensures { λ r. ⌜ StacksBracket limits entry (now (stacks .entry)) (now (stacks .exit)) s r ⌝ }
 {
     let i = s.indents;
-    if 0 < s.depth {
-        return Stacked::Got(i);
+    if entry {
+        return push(stacks, i.indent + 1, false, i);
     }
-    if top_ends(entries, i.depth) {
-        return stack(entries, limits.entries, i.indent + 1, false, i);
-    }
-    Stacked::Got(i)
+    i
 }
 
 fn opening_kind(sequence: bool) -> Kind
@@ -129,79 +134,92 @@ fn closing_kind(sequence: bool) -> Kind
 }
 
 // One level more, without a candidate.
-fn open_level(frames: &mut [u32], depth: usize, sequence: bool)
-    requires { ⌜ depth * 6 + 12 ≤ length (now frames) ⌝ }
-    ensures { λ r. ⌜ OpensLevel (now (frames .entry)) (now (frames .exit)) depth (new-level sequence) ⌝ }
+fn open_level(stacks: &mut [u32], level: usize, sequence: bool)
+    requires { ⌜ (level < 255) × (stack-words ≤ length (now stacks)) ⌝ }
+    ensures { λ r. ⌜ OpensLevel (now (stacks .entry)) (now (stacks .exit)) level (new-level sequence) ⌝ }
 {
-    let inner = depth + 1;
-    clear_key(frames, inner);
-    set_level(frames, inner, new_level(sequence));
+    let inner = level + 1;
+    clear_key(stacks, inner);
+    set_level(stacks, inner, new_level(sequence));
 }
 
-// '[' or '{'. 28: the 256th flow level; 48.
+// '[' or '{'. 48; 28: the 256th flow level; then what the rest of its line refuses.
 pub fn fetch_flow_collection_start(
     limits: Limits,
     text: &[u8],
     sequence: bool,
     s: State,
-    count: u32,
-    entries: &mut [u32],
-    frames: &mut [u32],
+    n: Counts,
+    stacks: &mut [u32],
 ) -> Brief
-    requires { ⌜ Ready limits (now entries) (now frames) s × AtBracket (now text) (s .place) ⌝ }
-    ensures { λ r. ⌜ FetchesRest limits (now (text .entry)) (now (entries .entry)) (now (frames .entry)) (now (entries .exit)) (now (frames .exit)) count s (λ t. fetch-flow-collection-start limits sequence t) (brief-fetched r) ⌝ }
+    requires { ⌜ Ready limits (now text) (now stacks) s × OneByte (now text) (s .place) ⌝ }
+    ensures { λ r. ⌜ FetchesQuiet limits (now (text .entry)) (now (stacks .entry)) (now (stacks .exit)) (bracket-words sequence (now (stacks .entry)) (n .count) s) n s (fetch-flow-collection-start limits sequence (state-of (now (text .entry)) (now (stacks .entry)) (n .count) s)) (brief-fetched r) ⌝ }
 {
-    s.save_key(count, entries, frames);
-    let r = stack_bracket(limits, s, entries);
-    let Stacked::Got(i) = r else {
-        return refuse_brief(48, s.place.mark);
-    };
-    if limits.levels <= s.depth {
+    let entry = needs_entry(s, stacks);
+    if entry & (limits.entries <= s.indents.depth) {
+        return Brief::Refused(full(s.place.mark));
+    }
+    if limits.levels <= s.flow_level {
         return refuse_brief(28, s.place.mark);
     }
-    open_level(frames, s.depth, sequence);
-    emit_bracket(
-        text,
-        false,
-        opening_kind(sequence),
-        s.with_indents(i).with_depth(s.depth + 1),
-        false,
-    )
+    let r = rest_of_line(text, s.place.skip_blank());
+    let next = match r {
+        Reached::Refused(f) => {
+            return Brief::Refused(f);
+        }
+        Reached::To(next) => next,
+    };
+    s.save_key(n.count, stacks);
+    let i = stack_bracket(limits, entry, s, stacks);
+    open_level(stacks, s.flow_level, sequence);
+    let t = s.with_indents(i).with_level(s.flow_level + 1);
+    past(t, false, opening_kind(sequence), next, false)
 }
 
-// ']' or '}'. 47: not the latest open one's kind, or none is open.
-pub fn fetch_flow_collection_end(text: &[u8], sequence: bool, s: State, frames: &mut [u32]) -> Brief
-    requires { ⌜ AtBracket (now text) (s .place) × (s .depth * 6 + 6 ≤ length (now frames)) ⌝ }
-    ensures { λ r. ⌜ FetchesFlow (now (text .entry)) (now (frames .entry)) (now (frames .exit)) s (λ t. fetch-flow-collection-end sequence t) (brief-fetched r) ⌝ }
+// ']' or '}'. 47: not the latest open one's kind, or none is open. Its level's candidate and data stay behind, unread.
+pub fn fetch_flow_collection_end(
+    limits: Limits,
+    text: &[u8],
+    sequence: bool,
+    s: State,
+    stacks: &[u32],
+) -> Brief
+    requires { ⌜ Ready limits (now text) (now stacks) s × OneByte (now text) (s .place) ⌝ }
+    ensures { λ r. ⌜ ((n : counts.Counts) → FetchesQuiet limits (now (text .entry)) (now (stacks .entry)) (now (stacks .entry)) (now (stacks .entry)) n s (fetch-flow-collection-end sequence (state-of (now (text .entry)) (now (stacks .entry)) (n .count) s)) (brief-fetched r)) ⌝ }
 {
-    if s.depth == 0 {
+    if s.flow_level == 0 {
         return refuse_brief(47, s.place.mark);
     }
-    let l = level(frames, s.depth);
+    let l = level_data(stacks, s.flow_level);
     if l.sequence != sequence {
         return refuse_brief(47, s.place.mark);
     }
-    if s.remove_key(frames) {
-        return emit_bracket(
-            text,
+    let r = rest_of_line(text, s.place.skip_blank());
+    match r {
+        Reached::Refused(f) => Brief::Refused(f),
+        Reached::To(next) => past(
+            s.with_level(s.flow_level - 1),
             l.implicit,
             closing_kind(sequence),
-            s.with_depth(s.depth - 1),
+            next,
             true,
-        );
+        ),
     }
-    refuse_brief(41, s.place.mark)
 }
 
 // ',' in flow.
-pub fn fetch_flow_entry(text: &[u8], s: State, frames: &mut [u32]) -> Brief
-    requires { ⌜ AtBracket (now text) (s .place) × (s .depth * 6 + 6 ≤ length (now frames)) × (0 < s .depth) ⌝ }
-    ensures { λ r. ⌜ FetchesFlow (now (text .entry)) (now (frames .entry)) (now (frames .exit)) s (λ t. fetch-flow-entry t) (brief-fetched r) ⌝ }
+pub fn fetch_flow_entry(limits: Limits, text: &[u8], s: State, stacks: &mut [u32]) -> Brief
+    requires { ⌜ Ready limits (now text) (now stacks) s × OneByte (now text) (s .place) × (0 < s .«flow_level») ⌝ }
+    ensures { λ r. ⌜ ((n : counts.Counts) → FetchesQuiet limits (now (text .entry)) (now (stacks .entry)) (now (stacks .exit)) (comma-words (now (stacks .entry)) s) n s (fetch-flow-entry (state-of (now (text .entry)) (now (stacks .entry)) (n .count) s)) (brief-fetched r)) ⌝ }
 {
-    if s.remove_key(frames) {
-        let l = level(frames, s.depth);
-        set_level(frames, s.depth, new_level(l.sequence));
-        return emit_bracket(text, l.implicit, Kind::FlowEntry, s, false);
+    let r = rest_of_line(text, s.place.skip_blank());
+    match r {
+        Reached::Refused(f) => Brief::Refused(f),
+        Reached::To(next) => {
+            s.remove_key(stacks);
+            let l = level_data(stacks, s.flow_level);
+            set_level(stacks, s.flow_level, new_level(l.sequence));
+            past(s, l.implicit, Kind::FlowEntry, next, false)
+        }
     }
-    refuse_brief(41, s.place.mark)
 }

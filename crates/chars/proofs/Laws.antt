@@ -6,7 +6,7 @@ use native.Mathlib.Omega.{arith}
 use lib.Dec.{eqb, leb, ltb}
 use borrow.Author.Tests.{lt-leb, ltb-false, ltb-true}
 use Rattle.yaml_text.specs.Test.{by-test, true-false}
-use Rattle.yaml_text.specs.Class.{among, isAlpha, isDigit, isHex, isUri, isWord}
+use Rattle.yaml_text.specs.Class.{among, is-alpha, is-digit, is-hex, is-uri, is-word}
 use Rattle.chars.specs.Ascii.{Ascii, _or_, ascii-same, one, range, uri-ascii}
 
 -- the characters of a URI, by ranges
@@ -26,22 +26,22 @@ unfolding uri-ranges
 ranges-ascii =
     one 33 tt or range 35 59 tt tt or one 61 tt or range 63 91 tt tt or one 93 tt or one 95 tt or range 97 122 tt tt or one 126 tt
 
-pub uri-same : (c : ℕ) → uri-ranges c ≡ isUri c
-unfolding uri-ranges isUri isWord isAlpha isDigit among
+pub uri-same : (c : ℕ) → uri-ranges c ≡ is-uri c
+unfolding uri-ranges is-uri is-word is-alpha is-digit among
 uri-same = ascii-same ranges-ascii uri-ascii tt
 
 -- where no hexadecimal digit stands
-hex-below : (c : ℕ) → c < 48 → isHex c ≡ false
-unfolding isHex isDigit
+hex-below : (c : ℕ) → c < 48 → is-hex c ≡ false
+unfolding is-hex is-digit
 hex-below c h = rw (lt-leb 48 c h, lt-leb 65 c (omega arith), lt-leb 97 c (omega arith))
 
-hex-between : (c : ℕ) → 70 < c → c < 97 → isHex c ≡ false
-unfolding isHex isDigit
+hex-between : (c : ℕ) → 70 < c → c < 97 → is-hex c ≡ false
+unfolding is-hex is-digit
 hex-between c h k = rw (lt-leb c 57 (omega arith), lt-leb c 70 h, lt-leb 97 c k, and-false (leb 48 c), and-false (leb 65 c))
 
 -- the least digit, and the least that is a small letter
-pub hex-least : (c : ℕ) → isHex c ≡ true → 48 ≤ c
+pub hex-least : (c : ℕ) → is-hex c ≡ true → 48 ≤ c
 hex-least c e = by-test (ltb c 48) (λ t. true-false (sym e ∙ hex-below c (ltb-true c 48 t))) (ltb-false c 48)
 
-pub hex-small : (c : ℕ) → isHex c ≡ true → 70 < c → 97 ≤ c
+pub hex-small : (c : ℕ) → is-hex c ≡ true → 70 < c → 97 ≤ c
 hex-small c e h = by-test (ltb c 97) (λ t. true-false (sym e ∙ hex-between c h (ltb-true c 97 t))) (ltb-false c 97)

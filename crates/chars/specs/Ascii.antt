@@ -8,7 +8,7 @@ use mir.Facts.{and-yes}
 use lib.Dec.{T, eqb, leb, ltb, ltb→lt}
 use borrow.Author.Tests.{lt-leb, ltb-false, ltb-true, ne-eqb}
 use Rattle.utf8.proofs.Below.{all-below, below}
-use Rattle.yaml_text.specs.Class.{among, isAlpha, isBlank, isBreak, isDigit, isFlow, isHex, isTag, isUri, isWord}
+use Rattle.yaml_text.specs.Class.{among, is-alpha, is-blank, is-break, is-digit, is-flow, is-hex, is-tag, is-uri, is-word}
 use Rattle.yaml_text.specs.Test.{by-test, true-false}
 
 pub record Ascii (p : ℕ → Bool) : Type 0 where
@@ -57,40 +57,40 @@ unfolding among
 members [] t = record { end = refl; high = λ c h. refl }
 members (k ∷ ks) t = let b = and-yes (low k) (all-low ks) t in one k (b .0) or members ks (b .1)
 
-pub break-ascii : Ascii isBreak
-unfolding isBreak
+pub break-ascii : Ascii is-break
+unfolding is-break
 break-ascii = one 10 tt or one 13 tt
 
-pub blank-ascii : Ascii isBlank
-unfolding isBlank
+pub blank-ascii : Ascii is-blank
+unfolding is-blank
 blank-ascii = one 32 tt or one 9 tt
 
-pub flow-ascii : Ascii isFlow
-unfolding isFlow
+pub flow-ascii : Ascii is-flow
+unfolding is-flow
 flow-ascii = members _ tt
 
-pub digit-ascii : Ascii isDigit
-unfolding isDigit
+pub digit-ascii : Ascii is-digit
+unfolding is-digit
 digit-ascii = range 48 57 tt tt
 
-pub hex-ascii : Ascii isHex
-unfolding isHex
+pub hex-ascii : Ascii is-hex
+unfolding is-hex
 hex-ascii = digit-ascii or range 65 70 tt tt or range 97 102 tt tt
 
-pub alpha-ascii : Ascii isAlpha
-unfolding isAlpha
+pub alpha-ascii : Ascii is-alpha
+unfolding is-alpha
 alpha-ascii = digit-ascii or range 65 90 tt tt or range 97 122 tt tt or members _ tt
 
-pub word-ascii : Ascii isWord
-unfolding isWord
+pub word-ascii : Ascii is-word
+unfolding is-word
 word-ascii = but _ alpha-ascii
 
-pub uri-ascii : Ascii isUri
-unfolding isUri
+pub uri-ascii : Ascii is-uri
+unfolding is-uri
 uri-ascii = word-ascii or members _ tt
 
-pub tag-ascii : Ascii isTag
-unfolding isTag
+pub tag-ascii : Ascii is-tag
+unfolding is-tag
 tag-ascii = but _ (but _ uri-ascii)
 
 agreed : (a b : Bool) → T (Bool·beq a b) → a ≡ b
@@ -114,6 +114,6 @@ not-so false t = refl
 pub apart : {p : ℕ → Bool} (q : ℕ → Bool) → Ascii p → T (all-below 128 (λ c. not (p c && q c))) → (c : ℕ) → p c ≡ true → q c ≡ false
 apart {p} q a t c e = not-so (q c) (rw e at (below 128 (λ k. not (p k && q k)) t c (ascii-low a c e .1)))
 
-pub blank-unbroken : (c : ℕ) → isBlank c ≡ true → isBreak c ≡ false
-unfolding isBlank isBreak
-blank-unbroken = apart isBreak blank-ascii tt
+pub blank-unbroken : (c : ℕ) → is-blank c ≡ true → is-break c ≡ false
+unfolding is-blank is-break
+blank-unbroken = apart is-break blank-ascii tt

@@ -2,19 +2,22 @@
 use Prim.Native.Nat.{_+_, _<_, _≤_, ℕ}
 use mathlib.Core.Bool.{Bool, false, true}
 use mathlib.Core.List.{List, [], _∷_}
+use mathlib.Core.Logic.{_⊎_, inl, inr}
 use mathlib.Core.Path.{_∙_, _≡_, ap, refl, sym}
 use native.Mathlib.Omega.{arith}
 use lib.Dec.{T, eqb, ltb}
 use lib.ListN.{List·getD-eq-default, drop, getD, length, length-drop}
 use lib.Seq.{drop-drop, getD-drop}
 use borrow.Author.Tests.{eq-eqb, ltb-false, ltb-true, ne-eqb}
+use denote.Enum.Declared.{tagOf}
+use Rattle.yaml_text.proofs.Decoded.{the-type}
 use Rattle.yaml_text.specs.declared.Decoded.{Decoded}
 use Rattle.yaml_text.specs.declared.Decoded.the-variants.{Char, End, Ill}
 use Rattle.yaml_text.specs.Char.{byte-order-mark}
 use Rattle.yaml_text.specs.Class.{peek}
 use Rattle.yaml_text.specs.Test.{by-test}
-use Rattle.yaml_text.specs.Utf8.{bytesOf, chars, first}
-use Rattle.yaml_text.specs.Utf8Laws.{chars-end, chars-next, chars-none, first-bytes, first-fits, first-past}
+use Rattle.yaml_text.specs.Utf8.{char-bytes, chars, first}
+use Rattle.yaml_text.specs.Utf8Laws.{chars-end, chars-next, chars-none, first-bytes, first-fits}
 use Rattle.yaml_text.specs.ByteLaws.{ascii-class}
 use Rattle.utf8.proofs.Laws.{plain-at}
 use Rattle.chars.specs.Ascii.{Ascii, ascii-low, low, one}
@@ -46,11 +49,18 @@ none-ill s at e = chars-none (drop at s) e
 pub none-end : (s : List ℕ) (at : ℕ) → first (drop at s) ≡ End → chars (drop at s) ≡ []
 none-end s at e = chars-end (drop at s) e
 
-pub none-past : (s : List ℕ) (at : ℕ) → length s ≤ at → chars (drop at s) ≡ []
-none-past s at h = none-end s at (first-past s at h)
+-- what a match tells of an answer that is no character
+abbrev pub NoChar : Decoded → Type 0
+NoChar d = (tagOf the-type d ≡ 1) ⊎ (tagOf the-type d ≡ 2)
+
+pub none-told : (s : List ℕ) (at : ℕ) {d : Decoded} → d ≡ first (drop at s) → NoChar d → chars (drop at s) ≡ []
+none-told s at {d = Char c n} e (inl k) = absurd (omega arith)
+none-told s at {d = Char c n} e (inr k) = absurd (omega arith)
+none-told s at {d = Ill} e k = none-ill s at (sym e)
+none-told s at {d = End} e k = none-end s at (sym e)
 
 -- a character that is seen at a place has the length of its encoding
-told-char : (s : List ℕ) (at c : ℕ) (d : Decoded) → first (drop at s) ≡ d → c ≡ peek (chars (drop at s)) 0 → 0 < c → CharAt s at c (length (bytesOf c))
+told-char : (s : List ℕ) (at c : ℕ) (d : Decoded) → first (drop at s) ≡ d → c ≡ peek (chars (drop at s)) 0 → 0 < c → CharAt s at c (length (char-bytes c))
 told-char s at c (Char x n) f e h =
     let a = char-at s at x n f in
     let k : c ≡ x = e ∙ rw (a .next) in
@@ -58,11 +68,11 @@ told-char s at c (Char x n) f e h =
 told-char s at c Ill f e h = let z : c ≡ 0 = e ∙ rw (none-ill s at f) in absurd (omega arith)
 told-char s at c End f e h = let z : c ≡ 0 = e ∙ rw (none-end s at f) in absurd (omega arith)
 
-pub peek-char : (s : List ℕ) (at c : ℕ) → c ≡ peek (chars (drop at s)) 0 → 0 < c → CharAt s at c (length (bytesOf c))
+pub peek-char : (s : List ℕ) (at c : ℕ) → c ≡ peek (chars (drop at s)) 0 → 0 < c → CharAt s at c (length (char-bytes c))
 peek-char s at c = told-char s at c (first (drop at s)) refl
 
 pub bom-char : (s : List ℕ) (at c : ℕ) → c ≡ peek (chars (drop at s)) 0 → c ≡ byte-order-mark → CharAt s at byte-order-mark 3
-unfolding bytesOf
+unfolding char-bytes
 bom-char s at c e f = peek-char s at byte-order-mark (sym f ∙ e) (omega arith)
 
 -- the byte at a place, or 0 past the end
@@ -76,13 +86,6 @@ module _ (s : List ℕ) (at b : ℕ) (e : b ≡ getD s at 0) where
   -- one below 128 is a character
   pub byte-char : at < length s → b < 128 → CharAt s at b 1
   byte-char h k = char-at s at b 1 (sym (plain-at s at b h e k))
-
-  -- and the character there, at the end too
-  pub byte-peek : b < 128 → peek (chars (drop at s)) 0 ≡ b
-  byte-peek k =
-      by-test (ltb at (length s))
-      (λ f. rw (byte-char (ltb-true at (length s) f) k .next))
-      (λ f. let h = ltb-false at (length s) f in rw (none-past s at h) (sym (e ∙ List·getD-eq-default s 0 h)))
 
   -- an ASCII class tells the same of it and of the character
   pub ascii-at : {p : ℕ → Bool} → Ascii p → p (peek (chars (drop at s)) 0) ≡ p b

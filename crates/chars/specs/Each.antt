@@ -1,14 +1,15 @@
--- Bytes of a class between two places of a text; and how many of a block are, as a loop without an exit counts them: where all are, each is.
+-- Bytes of a class between two places of a text, and what is carried over each of them; and how many of a block are, as a loop without an exit counts
+-- them: where all are, each is.
 use Prim.Native.Nat.{_+_, _-_, _<_, _≤_, suc, zero, ℕ}
 use mathlib.Core.Bool.{Bool, false, true}
 use mathlib.Core.List.{List, [], _∷_}
-use mathlib.Core.Path.{_∙_, _≡_, sym}
+use mathlib.Core.Path.{_≡_, subst}
 use native.Mathlib.Numerals.{add-one}
 use native.Mathlib.Omega.{arith}
-use lib.Dec.{ltb}
+use lib.Dec.{eqb, ltb}
 use lib.ListN.{drop, drop-of-length-le, getD, length, length-drop, take}
 use lib.Seq.{drop-cons, getD-drop, getD-take, length-take-le}
-use borrow.Author.Tests.{ltb-false, ltb-true}
+use borrow.Author.Tests.{eqb-true, ltb-false, ltb-true}
 use Rattle.yaml_text.specs.Pick.{pick}
 use Rattle.yaml_text.specs.Test.{by-test}
 
@@ -19,6 +20,10 @@ one-of p b = pick (p b) 1 0
 unfoldable pub count-of : (ℕ → Bool) → List ℕ → ℕ
 count-of p [] = 0
 count-of p (b ∷ l) = one-of p b + count-of p l
+
+-- all bytes of a block are of the class
+abbrev pub all-of : (ℕ → Bool) → List ℕ → Bool
+all-of p l = eqb (count-of p l) (length l)
 
 -- each byte from at to r is of the class
 pub record Each (p : ℕ → Bool) (s : List ℕ) (at r : ℕ) : Type 0 where
@@ -78,15 +83,27 @@ module _ {p : ℕ → Bool} {s : List ℕ} where
       }
 
   -- a block whose bytes are all counted
-  pub each-block : {at e n : ℕ} → e ≤ length s → n ≡ count-of p (take (e - at) (drop at s)) → e ≡ at + n → Each p s at e
-  each-block {at} {e} {n} h f g =
-      let k : e - at ≡ n = omega arith in
-      let l : length (take n (drop at s)) ≡ n = length-take-le n (drop at s) (rw length-drop (omega arith)) in
+  pub each-block : {at e : ℕ} → at ≤ e → e ≤ length s → all-of p (take (e - at) (drop at s)) ≡ true → Each p s at e
+  each-block {at} {e} o h f =
+      let l : length (take (e - at) (drop at s)) ≡ e - at = length-take-le (e - at) (drop at s) (rw length-drop (omega arith)) in
       record {
-        onward = omega arith;
+        onward = o;
         within = h;
         each = λ i a b.
             let j : at + (i - at) ≡ i = omega arith in
-            let c = counted p (take n (drop at s)) (sym (rw k at f) ∙ sym l) (i - at) (rw l (omega arith)) in
-            rw (getD-take n (drop at s) (i - at) 0 (omega arith), getD-drop at s (i - at) 0, j) at c;
+            let c = counted p (take (e - at) (drop at s)) (eqb-true _ _ f) (i - at) (rw l (omega arith)) in
+            rw (getD-take (e - at) (drop at s) (i - at) 0 (omega arith), getD-drop at s (i - at) 0, j) at c;
       }
+
+-- what a byte of the class carries on holds behind them all
+module _ (p : ℕ → Bool) (s : List ℕ) (P : ℕ → Type 0) (step : (i : ℕ) → i < length s → p (getD s i 0) ≡ true → P i → P (i + 1)) where
+  carry : (n at : ℕ) → at + n ≤ length s → ((i : ℕ) → at ≤ i → i < at + n → p (getD s i 0) ≡ true) → P at → P (at + n)
+  carry zero at h e x = let k : at ≡ at + 0 = omega arith in subst P k x
+  carry (suc n) at h e x =
+      let k : at + n + 1 ≡ at + suc n = omega arith in
+      subst P k (step (at + n) (omega arith) (e (at + n) (omega arith) (omega arith)) (carry n at (omega arith) (λ i a b. e i a (omega arith)) x))
+
+  pub each-carry : {at r : ℕ} → Each p s at r → P at → P r
+  each-carry {at} {r} w x =
+      let k : at + (r - at) ≡ r = omega (arith, w .onward) in
+      subst P k (carry (r - at) at (omega (arith, w .onward, w .within)) (λ i a b. w .each i a (omega arith)) x)

@@ -6,3 +6,4 @@ pub mod Places
 pub mod Lines
 pub mod Parts
 pub mod Each
+pub mod Blocks

@@ -9,8 +9,8 @@ use lib.ListN.{drop, getD}
 use borrow.Author.Tests.{eqb-false, eqb-true, ne-eqb}
 use Rattle.yaml_text.specs.declared.Mark.{Mark}
 use Rattle.yaml_text.specs.Char.{'-', dot}
-use Rattle.yaml_text.specs.Class.{isBlankOrBreakz, isBreak, peek}
-use Rattle.yaml_text.specs.Mark.{break-length, halfBreak, isMarker, new-line, skip-break}
+use Rattle.yaml_text.specs.Class.{is-blank-or-breakz, is-break, peek}
+use Rattle.yaml_text.specs.Mark.{break-length, half-break, is-marker, new-line, skip-break}
 use Rattle.yaml_text.specs.Pick.{pick}
 use Rattle.yaml_text.specs.Test.{by-pick, by-test}
 use Rattle.yaml_text.specs.Utf8.{chars}
@@ -24,19 +24,19 @@ use Rattle.chars.specs.Places.{moves-as, moves-none, moves-past, stands-
 -- by the byte at a place and, for CR, the one behind it
 module _ (s : List ℕ) (at b : ℕ) (e : b ≡ getD s at 0) where
   pub break-lf : b ≡ 10 → break-length (chars (drop at s)) ≡ 1
-  unfolding break-length halfBreak isBreak
+  unfolding break-length half-break is-break
   break-lf f = rw (eq-char s at b e 10 tt f .next)
 
   pub break-crlf : b ≡ 13 → (d : ℕ) → d ≡ getD s (at + 1) 0 → d ≡ 10 → break-length (chars (drop at s)) ≡ 2
-  unfolding break-length halfBreak
+  unfolding break-length half-break
   break-crlf f d g h = rw (eq-char s at b e 13 tt f .next, eq-char s (at + 1) d g 10 tt h .next)
 
   pub break-cr : b ≡ 13 → (d : ℕ) → d ≡ getD s (at + 1) 0 → (d ≡ 10 → ⊥) → break-length (chars (drop at s)) ≡ 1
-  unfolding break-length halfBreak isBreak
+  unfolding break-length half-break is-break
   break-cr f d g h = rw (eq-char s at b e 13 tt f .next, ne-char s (at + 1) d g 10 tt h)
 
   pub break-none : (b ≡ 10 → ⊥) → (b ≡ 13 → ⊥) → break-length (chars (drop at s)) ≡ 0
-  unfolding break-length halfBreak isBreak
+  unfolding break-length half-break is-break
   break-none f g = rw (ne-char s at b e 10 tt f, ne-char s at b e 13 tt g)
 
 -- each character of a break is one byte
@@ -60,15 +60,15 @@ break-reach s at =
 pub break-few : (cs : List ℕ) → break-length cs ≤ 2
 unfolding break-length
 break-few cs =
-    by-pick (λ (n : ℕ). n ≤ 2) (halfBreak (peek cs 0) (peek cs 1)) 2 (pick (isBreak (peek cs 0)) 1 0) (omega arith)
-    (by-pick (λ (n : ℕ). n ≤ 2) (isBreak (peek cs 0)) 1 0 (omega arith) (omega arith))
+    by-pick (λ (n : ℕ). n ≤ 2) (half-break (peek cs 0) (peek cs 1)) 2 (pick (is-break (peek cs 0)) 1 0) (omega arith)
+    (by-pick (λ (n : ℕ). n ≤ 2) (is-break (peek cs 0)) 1 0 (omega arith) (omega arith))
 
 -- the character b at the next two places as well, before blank, break or end
 unfoldable pub twice-more : ℕ → List ℕ → Bool
-twice-more b cs = eqb (peek cs 1) b && eqb (peek cs 2) b && isBlankOrBreakz (peek cs 3)
+twice-more b cs = eqb (peek cs 1) b && eqb (peek cs 2) b && is-blank-or-breakz (peek cs 3)
 
 pub twice-bytes : (s : List ℕ) (at b : ℕ) → CharAt s at b 1 → 0 < b → b < 128
-    → (eqb (getD s (at + 1) 0) b && eqb (getD s (at + 2) 0) b && isBlankOrBreakz (peek (chars (drop (at + 3) s)) 0))
+    → (eqb (getD s (at + 1) 0) b && eqb (getD s (at + 2) 0) b && is-blank-or-breakz (peek (chars (drop (at + 3) s)) 0))
     ≡ twice-more b (chars (drop at s))
 unfolding twice-more
 twice-bytes s at b a l h =
@@ -89,17 +89,17 @@ pub marker-ascii : Ascii (λ c. eqb c '-' || eqb c dot)
 marker-ascii = one '-' tt or one dot tt
 
 module _ (m : Mark) (s : List ℕ) (at : ℕ) where
-  pub marker-column : (m .col ≡ 0 → ⊥) → isMarker m (chars (drop at s)) ≡ false
-  unfolding isMarker
+  pub marker-column : (m .col ≡ 0 → ⊥) → is-marker m (chars (drop at s)) ≡ false
+  unfolding is-marker
   marker-column e = rw (ne-eqb (m .col) 0 e)
 
   module _ (b : ℕ) (e : b ≡ getD s at 0) (c : m .col ≡ 0) where
-    pub marker-other : (eqb b '-' || eqb b dot) ≡ false → isMarker m (chars (drop at s)) ≡ false
-    unfolding isMarker
+    pub marker-other : (eqb b '-' || eqb b dot) ≡ false → is-marker m (chars (drop at s)) ≡ false
+    unfolding is-marker
     marker-other f = rw (c, ascii-at s at b e marker-ascii ∙ f)
 
-    pub marker-more : (eqb b '-' || eqb b dot) ≡ true → isMarker m (chars (drop at s)) ≡ twice-more b (chars (drop at s))
-    unfolding isMarker twice-more
+    pub marker-more : (eqb b '-' || eqb b dot) ≡ true → is-marker m (chars (drop at s)) ≡ twice-more b (chars (drop at s))
+    unfolding is-marker twice-more
     marker-more f = rw (c, ascii-char s at b e marker-ascii f .next, f)
 
 module _ {text : List ℕ} {p : Place} (h : Stands text p) where

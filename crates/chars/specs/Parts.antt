@@ -6,7 +6,7 @@ use native.Mathlib.Omega.{arith}
 use lib.ListN.{drop, take}
 use lib.Seq.{drop-drop, take-add}
 use Rattle.yaml_text.specs.Mark.{Run}
-use Rattle.yaml_text.specs.Utf8.{bytesOf, encode}
+use Rattle.yaml_text.specs.Utf8.{char-bytes, encode}
 use Rattle.yaml_text.specs.Utf8Laws.{first-bytes}
 use Rattle.chars.specs.declared.mark.Place.{Place}
 use Rattle.chars.specs.Bytes.{CharAt}
@@ -26,7 +26,7 @@ part-join s from at to h k =
     rw (e, take-add (at - from) (to - at) (drop from s), drop-drop (at - from) from s, f)
 
 -- one character more
-pub part-more : (s : List ℕ) (from : ℕ) {at c n : ℕ} → from ≤ at → CharAt s at c n → part s from (at + n) ≡ part s from at ++ bytesOf c
+pub part-more : (s : List ℕ) (from : ℕ) {at c n : ℕ} → from ≤ at → CharAt s at c n → part s from (at + n) ≡ part s from at ++ char-bytes c
 part-more s from {at} {c} {n} h k =
     let e : at + n - at ≡ n = omega arith in
     part-join s from at (at + n) h (omega arith) ∙ rw (e, first-bytes (drop at s) c n (k .is) .0)

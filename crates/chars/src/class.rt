@@ -1,120 +1,158 @@
 // The tests of char_traits. 0 stands for the end of the text. `|` and `&` take no branch: a loop that stops at a class gets one bit test.
 ghost use mathlib.Core.Bool.{true};
 ghost use mathlib.Core.Path.{_≡_};
-ghost use Rattle.yaml_text.specs.Class.{asHex, isAlpha, isAnchor, isBlank, isBlankOrBreakz, isBom, isBreak, isBreakz, isDigit, isFlow, isHex, isNonSpace, isTag, isUri, isWord, isZ};
+ghost use Rattle.yaml_text.specs.Class.{as-hex, is-alpha, is-anchor, is-blank, is-blank-or-breakz, is-bom, is-break, is-breakz, is-digit, is-flow, is-hex, is-non-space, is-tag, is-uri, is-word, is-z};
+use crate::code::BYTE_ORDER_MARK;
+use crate::code::CARRIAGE_RETURN;
+use crate::code::CLOSE_BRACE;
+use crate::code::CLOSE_BRACKET;
+use crate::code::COMMA;
+use crate::code::DASH;
+use crate::code::EQUALS;
+use crate::code::EXCLAMATION;
+use crate::code::HASH;
+use crate::code::LINE_FEED;
+use crate::code::LOWER_A;
+use crate::code::LOWER_F;
+use crate::code::LOWER_Z;
+use crate::code::NINE;
+use crate::code::OPEN_BRACE;
+use crate::code::OPEN_BRACKET;
+use crate::code::QUESTION;
+use crate::code::SEMICOLON;
+use crate::code::SPACE;
+use crate::code::TAB;
+use crate::code::TILDE;
+use crate::code::UNDERSCORE;
+use crate::code::UPPER_A;
+use crate::code::UPPER_F;
+use crate::code::UPPER_Z;
+use crate::code::ZERO;
+
+// What a hexadecimal digit from 'A' or from 'a' on is above its value.
+const UPPER_LESS_10: u32 = b'A' as u32 - 10;
+
+const LOWER_LESS_10: u32 = b'a' as u32 - 10;
 
 pub fn is_z(c: u32) -> bool
-    ensures { λ r. ⌜ r ≡ isZ c ⌝ }
+    ensures { λ r. ⌜ r ≡ is-z c ⌝ }
 {
     c == 0
 }
 
 pub fn is_break(c: u32) -> bool
-    ensures { λ r. ⌜ r ≡ isBreak c ⌝ }
+    ensures { λ r. ⌜ r ≡ is-break c ⌝ }
 {
-    (c == 10) | (c == 13)
+    (c == LINE_FEED) | (c == CARRIAGE_RETURN)
 }
 
 pub fn is_breakz(c: u32) -> bool
-    ensures { λ r. ⌜ r ≡ isBreakz c ⌝ }
+    ensures { λ r. ⌜ r ≡ is-breakz c ⌝ }
 {
     is_break(c) | is_z(c)
 }
 
 pub fn is_blank(c: u32) -> bool
-    ensures { λ r. ⌜ r ≡ isBlank c ⌝ }
+    ensures { λ r. ⌜ r ≡ is-blank c ⌝ }
 {
-    (c == 32) | (c == 9)
+    (c == SPACE) | (c == TAB)
 }
 
 pub fn is_blank_or_breakz(c: u32) -> bool
-    ensures { λ r. ⌜ r ≡ isBlankOrBreakz c ⌝ }
+    ensures { λ r. ⌜ r ≡ is-blank-or-breakz c ⌝ }
 {
     is_blank(c) | is_breakz(c)
 }
 
 pub fn is_digit(c: u32) -> bool
-    ensures { λ r. ⌜ r ≡ isDigit c ⌝ }
+    ensures { λ r. ⌜ r ≡ is-digit c ⌝ }
 {
-    (48 <= c) & (c <= 57)
+    (ZERO <= c) & (c <= NINE)
 }
 
 // Letters, digits, _ and -.
 pub fn is_alpha(c: u32) -> bool
-    ensures { λ r. ⌜ r ≡ isAlpha c ⌝ }
+    ensures { λ r. ⌜ r ≡ is-alpha c ⌝ }
 {
-    is_digit(c) | (65 <= c) & (c <= 90) | (97 <= c) & (c <= 122) | ((c == 95) | (c == 45))
+    is_digit(c)
+        | (UPPER_A <= c) & (c <= UPPER_Z)
+        | (LOWER_A <= c) & (c <= LOWER_Z)
+        | ((c == UNDERSCORE) | (c == DASH))
 }
 
 pub fn is_hex(c: u32) -> bool
-    ensures { λ r. ⌜ r ≡ isHex c ⌝ }
+    ensures { λ r. ⌜ r ≡ is-hex c ⌝ }
 {
-    is_digit(c) | (65 <= c) & (c <= 70) | (97 <= c) & (c <= 102)
+    is_digit(c) | (UPPER_A <= c) & (c <= UPPER_F) | (LOWER_A <= c) & (c <= LOWER_F)
 }
 
 // The value of a hexadecimal digit.
 pub fn as_hex(c: u32) -> u32
-    requires { ⌜ isHex c ≡ true ⌝ }
-    ensures { λ r. ⌜ r ≡ asHex c ⌝ }
+    requires { ⌜ is-hex c ≡ true ⌝ }
+    ensures { λ r. ⌜ r ≡ as-hex c ⌝ }
 {
-    if c <= 57 {
-        return c - 48;
+    if c <= NINE {
+        return c - ZERO;
     }
-    if c <= 70 {
-        return c - 55;
+    if c <= UPPER_F {
+        return c - UPPER_LESS_10;
     }
-    c - 87
+    c - LOWER_LESS_10
 }
 
 // , [ ] { }
 pub fn is_flow(c: u32) -> bool
-    ensures { λ r. ⌜ r ≡ isFlow c ⌝ }
+    ensures { λ r. ⌜ r ≡ is-flow c ⌝ }
 {
-    (c == 44) | (c == 91) | (c == 93) | (c == 123) | (c == 125)
+    (c == COMMA)
+        | (c == OPEN_BRACKET)
+        | (c == CLOSE_BRACKET)
+        | (c == OPEN_BRACE)
+        | (c == CLOSE_BRACE)
 }
 
 pub fn is_bom(c: u32) -> bool
-    ensures { λ r. ⌜ r ≡ isBom c ⌝ }
+    ensures { λ r. ⌜ r ≡ is-bom c ⌝ }
 {
-    c == 0xFEFF
+    c == BYTE_ORDER_MARK
 }
 
 // Neither blank, break, end nor byte order mark.
 pub fn is_yaml_non_space(c: u32) -> bool
-    ensures { λ r. ⌜ r ≡ isNonSpace c ⌝ }
+    ensures { λ r. ⌜ r ≡ is-non-space c ⌝ }
 {
     !is_blank_or_breakz(c) & !is_bom(c)
 }
 
 pub fn is_anchor_char(c: u32) -> bool
-    ensures { λ r. ⌜ r ≡ isAnchor c ⌝ }
+    ensures { λ r. ⌜ r ≡ is-anchor c ⌝ }
 {
     is_yaml_non_space(c) & !is_flow(c)
 }
 
 // Letters, digits and -.
 pub fn is_word_char(c: u32) -> bool
-    ensures { λ r. ⌜ r ≡ isWord c ⌝ }
+    ensures { λ r. ⌜ r ≡ is-word c ⌝ }
 {
-    is_alpha(c) & (c != 95)
+    is_alpha(c) & (c != UNDERSCORE)
 }
 
 // Word characters and # ; / ? : @ & = + $ , _ . ! ~ * ' ( ) [ ] %, by ranges.
 pub fn is_uri_char(c: u32) -> bool
-    ensures { λ r. ⌜ r ≡ isUri c ⌝ }
+    ensures { λ r. ⌜ r ≡ is-uri c ⌝ }
 {
-    (c == 33)
-        | (35 <= c) & (c <= 59)
-        | (c == 61)
-        | (63 <= c) & (c <= 91)
-        | (c == 93)
-        | (c == 95)
-        | (97 <= c) & (c <= 122)
-        | (c == 126)
+    (c == EXCLAMATION)
+        | (HASH <= c) & (c <= SEMICOLON)
+        | (c == EQUALS)
+        | (QUESTION <= c) & (c <= OPEN_BRACKET)
+        | (c == CLOSE_BRACKET)
+        | (c == UNDERSCORE)
+        | (LOWER_A <= c) & (c <= LOWER_Z)
+        | (c == TILDE)
 }
 
 pub fn is_tag_char(c: u32) -> bool
-    ensures { λ r. ⌜ r ≡ isTag c ⌝ }
+    ensures { λ r. ⌜ r ≡ is-tag c ⌝ }
 {
-    is_uri_char(c) & !is_flow(c) & (c != 33)
+    is_uri_char(c) & !is_flow(c) & (c != EXCLAMATION)
 }

@@ -3,7 +3,7 @@ ghost use mathlib.Core.Path.{_≡_};
 ghost use Prim.Native.Nat.{_<_, _^_, _≤_};
 ghost use lib.ListN.{drop};
 ghost use Rattle.yaml_text.specs.Utf8.{chars};
-ghost use Rattle.yaml_text.specs.Mark.{along, along-by, break-length, isMarker, new-line, origin, over-bom, skip-break};
+ghost use Rattle.yaml_text.specs.Mark.{along, along-by, break-length, is-marker, new-line, origin, over-bom, skip-break};
 ghost use Rattle.chars.specs.Bytes.{CharAt};
 ghost use Rattle.chars.specs.Lines.{twice-more};
 ghost use Rattle.chars.specs.View.{Moves, Small, Stands, past, view};
@@ -31,10 +31,17 @@ impl Place {
         Place { at: 0, mark: m }
     }
 
-    // Over n characters of one byte that are no breaks.
-    pub fn skip_n_non_blank(self, n: u32) -> Self
-        requires { ⌜ Small self × (n ≤ 2 ^ 20) ⌝ }
-        ensures { λ r. ⌜ r ≡ past self n (along-by n (self .mark)) ⌝ }
+    // The first byte of a text that begins at a mark.
+    pub fn first_at(mark: Mark) -> Self
+        ensures { λ r. ⌜ r ≡ record { at = 0; mark = mark } ⌝ }
+    {
+        Place { at: 0, mark: mark }
+    }
+
+    // Over n characters that take so many bytes, none of them a break.
+    pub fn skip_chars(self, bytes: usize, n: u32) -> Self
+        requires { ⌜ Small self × (bytes ≤ 2 ^ 20) × (n ≤ 2 ^ 20) ⌝ }
+        ensures { λ r. ⌜ r ≡ past self bytes (along-by n (self .mark)) ⌝ }
     {
         let m = Mark {
             index: self.mark.index + n,
@@ -42,9 +49,17 @@ impl Place {
             col: self.mark.col + n,
         };
         Place {
-            at: self.at + n as usize,
+            at: self.at + bytes,
             mark: m,
         }
+    }
+
+    // Over n characters of one byte that are no breaks.
+    pub fn skip_n_non_blank(self, n: u32) -> Self
+        requires { ⌜ Small self × (n ≤ 2 ^ 20) ⌝ }
+        ensures { λ r. ⌜ r ≡ past self n (along-by n (self .mark)) ⌝ }
+    {
+        self.skip_chars(n as usize, n)
     }
 
     // Over a blank.
@@ -52,7 +67,7 @@ impl Place {
         requires { ⌜ Small self ⌝ }
         ensures { λ r. ⌜ r ≡ past self 1 (along (self .mark)) ⌝ }
     {
-        self.skip_n_non_blank(1)
+        self.skip_chars(1, 1)
     }
 
     // Over a character of n bytes that is no break.
@@ -60,15 +75,7 @@ impl Place {
         requires { ⌜ Small self × (n ≤ 4) ⌝ }
         ensures { λ r. ⌜ r ≡ past self n (along (self .mark)) ⌝ }
     {
-        let m = Mark {
-            index: self.mark.index + 1,
-            line: self.mark.line,
-            col: self.mark.col + 1,
-        };
-        Place {
-            at: self.at + n,
-            mark: m,
-        }
+        self.skip_chars(n, 1)
     }
 
     // Over a break of n characters.
@@ -109,11 +116,11 @@ pub fn break_length(s: &[u8], at: usize) -> u32
     ensures { λ r. ⌜ r ≡ break-length (chars (drop at (now (s .entry)))) ⌝ }
 {
     let b = byte(s, at);
-    if b == 10 {
+    if b == b'\n' {
         return 1;
     }
-    if b == 13 {
-        return if byte(s, at + 1) == 10 { 2 } else { 1 };
+    if b == b'\r' {
+        return if byte(s, at + 1) == b'\n' { 2 } else { 1 };
     }
     0
 }
@@ -133,14 +140,14 @@ pub fn skip_break(s: &[u8], p: Place) -> Place
 
 // Whether `---` or `...` stands here, at column 0 and before blank, break or end.
 pub fn is_marker(s: &[u8], p: Place) -> bool
-    ensures { λ r. ⌜ r ≡ isMarker (p .mark) (chars (drop (p .at) (now (s .entry)))) ⌝ }
+    ensures { λ r. ⌜ r ≡ is-marker (p .mark) (chars (drop (p .at) (now (s .entry)))) ⌝ }
 {
     if p.mark.col != 0 {
         return false;
     }
     let at = p.at;
     let b = byte(s, at);
-    if (b == 45) | (b == 46) {
+    if (b == b'-') | (b == b'.') {
         return twice_more(s, at, b);
     }
     false

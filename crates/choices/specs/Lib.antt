@@ -1,3 +1,3 @@
 pub mod Choice
-pub mod Found
+pub mod Tells
 pub mod Advance

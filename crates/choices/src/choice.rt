@@ -3,13 +3,33 @@ ghost use mathlib.Core.Path.{_≡_};
 ghost use Prim.Native.Nat.{_+_, _^_, _<_};
 ghost use lib.Dec.{ltb};
 ghost use lib.ListN.{drop};
+ghost use Rattle.yaml_text.specs.Char.{':'};
 ghost use Rattle.yaml_text.specs.Class.{peek};
 ghost use Rattle.yaml_text.specs.Pick.{pick};
 ghost use Rattle.yaml_text.specs.Utf8.{chars};
 ghost use Rattle.yaml_scan.specs.Choice.{choice, indicator};
 ghost use Rattle.yaml_scan.specs.Value.{takes-colon};
 ghost use Rattle.chars.specs.View.{Stands};
-ghost use Rattle.choices.specs.Choice.{Says, Sees, ahead, colon-before, dash-or-question};
+ghost use Rattle.choices.specs.Choice.{AsDefined, CharHere, ahead, colon-before, dash-or-question};
+use crate::code::AMPERSAND;
+use crate::code::ASTERISK;
+use crate::code::AT_SIGN;
+use crate::code::BACKTICK;
+use crate::code::BAR;
+use crate::code::BYTE_ORDER_MARK;
+use crate::code::CLOSE_BRACE;
+use crate::code::CLOSE_BRACKET;
+use crate::code::COLON;
+use crate::code::COMMA;
+use crate::code::DASH;
+use crate::code::DOUBLE_QUOTE;
+use crate::code::EXCLAMATION;
+use crate::code::GREATER;
+use crate::code::OPEN_BRACE;
+use crate::code::OPEN_BRACKET;
+use crate::code::PERCENT;
+use crate::code::QUESTION;
+use crate::code::SINGLE_QUOTE;
 use chars::class::is_blank_or_breakz;
 use chars::class::is_flow;
 use chars::mark::is_marker;
@@ -27,12 +47,14 @@ fn pick(b: bool, x: Choice, y: Choice) -> Choice
 }
 
 // Whether K5 takes the ':' here.
-pub fn takes_colon(text: &[u8], s: State) -> bool
-    requires { ⌜ Sees (now text) s 58 ⌝ }
-    ensures { λ r. ⌜ Says (now (text .entry)) s (λ t. takes-colon t) r ⌝ }
+fn takes_colon(text: &[u8], s: State) -> bool
+    requires { ⌜ CharHere (now text) s ':' ⌝ }
+    ensures { λ r. ⌜ AsDefined (now (text .entry)) s (λ t. takes-colon t) r ⌝ }
 {
     let n = look(text, s.place.at + 1);
-    is_blank_or_breakz(n) | (0 < s.depth) & (is_flow(n) | (s.adjacent == s.place.mark.index + 1))
+    is_blank_or_breakz(n)
+        | (0 < s.flow_level)
+            & (is_flow(n) | (s.adjacent_value_allowed_at == s.place.mark.index + 1))
 }
 
 // '-' and '?': before blank, break or end they are indicators; in flow, before a flow indicator, they start no token.
@@ -47,29 +69,29 @@ fn dash_or_question(text: &[u8], flow: bool, at: usize, found: Choice) -> Choice
     pick(flow & is_flow(n), Choice::Stray, Choice::AtPlain)
 }
 
-// The token whose first character is c.
+// The token whose first character is c, in the definition's groups: brackets and ',', dashes, those with text, those that begin none.
 fn indicator(text: &[u8], s: State, c: u32) -> Choice
-    requires { ⌜ Sees (now text) s c ⌝ }
-    ensures { λ r. ⌜ r ≡ indicator (ltb 0 (s .depth)) (colon-before s (peek (ahead (now (text .entry)) s) 1)) c (peek (ahead (now (text .entry)) s) 1) ⌝ }
+    requires { ⌜ CharHere (now text) s c ⌝ }
+    ensures { λ r. ⌜ r ≡ indicator (ltb 0 (s .«flow_level»)) (colon-before s (peek (ahead (now (text .entry)) s) 1)) c (peek (ahead (now (text .entry)) s) 1) ⌝ }
 {
-    let flow = 0 < s.depth;
+    let flow = 0 < s.flow_level;
     match c {
-        33 => Choice::AtTag,
-        34 => Choice::AtQuoted(false),
-        38 => Choice::AtAnchor(false),
-        39 => Choice::AtQuoted(true),
-        42 => Choice::AtAnchor(true),
-        44 => pick(flow, Choice::AtComma, Choice::Stray),
-        45 => dash_or_question(text, flow, s.place.at, Choice::AtDash),
-        58 => pick(takes_colon(text, s), Choice::AtColon, Choice::AtPlain),
-        62 => pick(flow, Choice::Stray, Choice::AtBlock(false)),
-        63 => dash_or_question(text, flow, s.place.at, Choice::AtQuestion),
-        91 => Choice::Opens(true),
-        93 => Choice::Closes(true),
-        123 => Choice::Opens(false),
-        124 => pick(flow, Choice::Stray, Choice::AtBlock(true)),
-        125 => Choice::Closes(false),
-        37 | 64 | 96 | 0xFEFF => Choice::Stray,
+        OPEN_BRACKET => Choice::Opens { sequence: true },
+        OPEN_BRACE => Choice::Opens { sequence: false },
+        CLOSE_BRACKET => Choice::Closes { sequence: true },
+        CLOSE_BRACE => Choice::Closes { sequence: false },
+        COMMA => pick(flow, Choice::AtComma, Choice::Stray),
+        DASH => dash_or_question(text, flow, s.place.at, Choice::AtDash),
+        QUESTION => dash_or_question(text, flow, s.place.at, Choice::AtQuestion),
+        COLON => pick(takes_colon(text, s), Choice::AtColon, Choice::AtPlain),
+        ASTERISK => Choice::AtAnchor { alias: true },
+        AMPERSAND => Choice::AtAnchor { alias: false },
+        EXCLAMATION => Choice::AtTag,
+        BAR => pick(flow, Choice::Stray, Choice::AtBlock { literal: true }),
+        GREATER => pick(flow, Choice::Stray, Choice::AtBlock { literal: false }),
+        SINGLE_QUOTE => Choice::AtQuoted { single: true },
+        DOUBLE_QUOTE => Choice::AtQuoted { single: false },
+        PERCENT | AT_SIGN | BACKTICK | BYTE_ORDER_MARK => Choice::Stray,
         _ => Choice::AtPlain,
     }
 }
@@ -77,7 +99,7 @@ fn indicator(text: &[u8], s: State, c: u32) -> Choice
 // The end; at column 0 document markers; at column 0 and level 0 '%' and BOM; then 42; then the indicator.
 pub fn choice(text: &[u8], s: State) -> Choice
     requires { ⌜ Stands (now text) (s .place) ⌝ }
-    ensures { λ r. ⌜ Says (now (text .entry)) s (λ t. choice t) r ⌝ }
+    ensures { λ r. ⌜ AsDefined (now (text .entry)) s (λ t. choice t) r ⌝ }
 {
     let at = s.place.at;
     let c = look(text, at);
@@ -85,13 +107,13 @@ pub fn choice(text: &[u8], s: State) -> Choice
         return Choice::AtEnd;
     }
     if is_marker(text, s.place) {
-        return Choice::AtMarker(c == 45);
+        return Choice::AtMarker { starts: c == DASH };
     }
-    let outside = (s.place.mark.col == 0) & (s.depth == 0);
-    if outside & (c == 37) {
+    let outside = (s.place.mark.col == 0) & (s.flow_level == 0);
+    if outside & (c == PERCENT) {
         return Choice::AtDirective;
     }
-    if outside & (c == 0xFEFF) {
+    if outside & (c == BYTE_ORDER_MARK) {
         return Choice::AtByteOrderMark;
     }
     if s.place.mark.col + 1 < s.indents.indent {

@@ -8,11 +8,11 @@ use lib.Dec.{eqb}
 use lib.ListN.{drop, getD}
 use Rattle.yaml_text.specs.declared.Mark.{Mark}
 use Rattle.yaml_text.specs.Char.{'!'}
-use Rattle.yaml_text.specs.Class.{isAlpha, none-left, peek}
-use Rattle.yaml_text.specs.Mark.{Run, along, look, skip-by, word}
+use Rattle.yaml_text.specs.Class.{is-alpha, none-left, peek}
+use Rattle.yaml_text.specs.Mark.{Run, along, look, skip-by, run-of}
 use Rattle.yaml_text.specs.Mark as definition
 use Rattle.yaml_text.specs.Refusal.{_>>=_, got, need, refused}
-use Rattle.yaml_text.specs.Utf8.{bytesOf, chars, encode}
+use Rattle.yaml_text.specs.Utf8.{char-bytes, chars, encode}
 use Rattle.yaml_lexeme.specs.Directive.{tag-handle}
 use Rattle.chars.specs.declared.mark.Place.{Place}
 use Rattle.chars.specs.Bytes.{CharAt, ne-char}
@@ -20,12 +20,12 @@ use Rattle.chars.specs.Parts.{Spans, part-more, part-none}
 use Rattle.chars.specs.View.{past, view}
 use Rattle.reading.specs.declared.Reached.{Reached}
 use Rattle.reading.specs.declared.Reached.the-variants.{Refused, To}
-use Rattle.words.specs.RunLaws.{span-none, span-some}
+use Rattle.runs.specs.RunLaws.{span-none, span-some}
 use Rattle.directives.proofs.Spans.{span-before, span-behind}
 use Rattle.directives.specs.Tag.{Handles, handle, no-handle}
 
 -- the definition, by what stands there
-module _ (start : Mark) (p : definition.Place) (e : eqb (look p) '!' ≡ true) (w : Run) (f : word isAlpha (along (p .mark)) (drop 1 (p .rest)) ≡ w) where
+module _ (start : Mark) (p : definition.Place) (e : eqb (look p) '!' ≡ true) (w : Run) (f : run-of is-alpha (along (p .mark)) (drop 1 (p .rest)) ≡ w) where
   is-closed : eqb (look (w .place)) '!' ≡ true → tag-handle start p ≡ got (record { text = '!' ∷ w .text ++ ('!' ∷ []); place = skip-by 1 (w .place) })
   unfolding tag-handle _>>=_ need
   is-closed g = rw (e, f, g)
@@ -45,14 +45,14 @@ module _ (start : Mark) {text : List ℕ} (p : Place) where
   unfolding tag-handle _>>=_ need
   handle-none {c} b e f = rw (f, ne-char text (p .at) c b '!' tt e) no-handle
 
-  module _ {h : Place} (a : CharAt text (p .at) '!' 1) (s : Spans text (past p 1 (along (p .mark))) h (word isAlpha (along (p .mark)) (chars (drop (p .at + 1) text)))) where
+  module _ {h : Place} (a : CharAt text (p .at) '!' 1) (s : Spans text (past p 1 (along (p .mark))) h (run-of is-alpha (along (p .mark)) (chars (drop (p .at + 1) text)))) where
     abbrev name : Run
-    name = word isAlpha (along (p .mark)) (chars (drop (p .at + 1) text))
+    name = run-of is-alpha (along (p .mark)) (chars (drop (p .at + 1) text))
 
     mark : eqb (peek (chars (drop (p .at) text)) 0) '!' ≡ true
     mark = rw (a .next)
 
-    read : word isAlpha (along (p .mark)) (drop 1 (chars (drop (p .at) text))) ≡ name
+    read : run-of is-alpha (along (p .mark)) (drop 1 (chars (drop (p .at) text))) ≡ name
     read = rw (a .next)
 
     behind : {b : Bool} → eqb (peek (chars (drop (h .at) text)) 0) '!' ≡ b → eqb (look (name .place)) '!' ≡ b
@@ -66,7 +66,7 @@ module _ (start : Mark) {text : List ℕ} (p : Place) where
       other = behind (ne-char text (h .at) c b '!' tt n)
 
       pub handle-lone : {r : Reached} → h .at ≡ p .at + 1 → r ≡ To h → Handles text p r (tag-handle start (view text p))
-      unfolding encode bytesOf
+      unfolding encode char-bytes
       handle-lone e f =
           rw (f, is-lone start (view text p) mark name read other (span-none s e))
           (handle {h = record { text = '!' ∷ []; place = name .place }} (record {

@@ -10,22 +10,22 @@ use lib.Seq.{length-sets, sets}
 use borrow.Author.Tests.{le-ltb, lt-ltb, ltb-false, ltb-true}
 use Rattle.rooms.specs.Room.{sets-join}
 use Rattle.yaml_text.specs.Char.{space}
-use Rattle.yaml_text.specs.Class.{isBlank, isNonSpace, peek}
-use Rattle.yaml_text.specs.Mark.{Run, look, word}
+use Rattle.yaml_text.specs.Class.{is-blank, is-non-space, peek}
+use Rattle.yaml_text.specs.Mark.{Run, look, run-of}
 use Rattle.yaml_text.specs.Mark as definition
 use Rattle.yaml_text.specs.Refusal.{before-read, got}
 use Rattle.yaml_text.specs.Test.{by-test, true-false}
-use Rattle.yaml_text.specs.Utf8.{bytesOf, chars, encode}
+use Rattle.yaml_text.specs.Utf8.{char-bytes, chars, encode}
 use Rattle.yaml_text.specs.Utf8Laws.{encode-append}
 use Rattle.yaml_lexeme.specs.Directive.{blanks-at, parameters}
 use Rattle.chars.specs.declared.mark.Place.{Place}
 use Rattle.chars.specs.Parts.{Spans, part}
 use Rattle.chars.specs.View.{Moves, Stands, view}
-use Rattle.words.specs.declared.Run.the-variants.{To}
-use Rattle.words.specs.Run.{Writes, seen-run, written}
-use Rattle.words.specs.RunLaws.{span-none, span-size, span-some, written-before}
+use Rattle.runs.specs.declared.Run.the-variants.{To}
+use Rattle.runs.specs.Run.{Writes, seen-run, written}
+use Rattle.runs.specs.RunLaws.{span-none, span-size, span-some, written-before}
 use Rattle.directives.specs.Name.{spaced}
-use Rattle.directives.proofs.Words.{blanks-end, first-blanks, join-blanks, join-none, join-word, nonspace-end, word-end, word-none, word-some}
+use Rattle.directives.proofs.Words.{blanks-end, first-blanks, join-blanks, join-none, join-word, nonspace-end, run-of-end, run-of-none, run-of-some}
 
 -- the parameters from a place on, behind others or not
 abbrev from-here : Bool → Bool → definition.Place → Run
@@ -39,14 +39,14 @@ pub record Joining (text before : List ℕ) (from : Place) (n : ℕ) (out : List
   pub stands : Stands text p
   pub many : n ≤ k
   pub few : k + from .at ≤ n + p .at
-  pub room : isNonSpace (seen text p) ≡ true → n < k → k + from .at < n + p .at
+  pub room : is-non-space (seen text p) ≡ true → n < k → k + from .at < n + p .at
   pub kept : length out ≡ length before
-  pub clear : isBlank (seen text p) ≡ false
+  pub clear : is-blank (seen text p) ≡ false
   pub whole : written before n (got (from-here false false (view text from))) ≡ written out k (got (from-here (ltb n k) (ltb n k) (view text p)))
 
 -- where blanks were passed
-passed : {text : List ℕ} {p q : Place} → Moves text p q (blanks-at (view text p)) → isBlank (seen text q) ≡ false
-passed {text} {p} m = ap (λ (x : definition.Place). isBlank (look x)) (m .same) ∙ blanks-end (p .mark) (chars (drop (p .at) text))
+passed : {text : List ℕ} {p q : Place} → Moves text p q (blanks-at (view text p)) → is-blank (seen text q) ≡ false
+passed {text} {p} m = ap (λ (x : definition.Place). is-blank (look x)) (m .same) ∙ blanks-end (p .mark) (chars (drop (p .at) text))
 
 pub joining-start : {text before : List ℕ} {from p : Place} (n : ℕ) → Moves text from p (blanks-at (view text from)) → Joining text before p n before p n
 joining-start n m =
@@ -77,7 +77,7 @@ pub space-none : {n k : ℕ} (out : List ℕ) → k ≤ n → (out ≡ sets out 
 space-none {n} {k} out h = rw (le-ltb n k h) (refl, omega arith)
 
 spaced-bytes : (n k : ℕ) → encode (spaced n k) ≡ spaced n k
-unfolding encode bytesOf
+unfolding encode char-bytes
 spaced-bytes n k = by-test (ltb n k) (λ e. rw e) (λ e. rw e)
 
 spaced-one : (n k : ℕ) → length (spaced n k) ≤ 1
@@ -91,23 +91,23 @@ spaced-few n k a b h g =
     (λ e. rw e (omega arith))
 
 module _ {text before out : List ℕ} {from p e : Place} {n k : ℕ} (w : Joining text before from n out p k)
-    (s : Spans text p e (word isNonSpace (p .mark) (chars (drop (p .at) text)))) where
+    (s : Spans text p e (run-of is-non-space (p .mark) (chars (drop (p .at) text)))) where
   pub joining-done : e .at ≡ p .at → Writes text before out from n (To p k) (got (from-here false false (view text from)))
   unfolding seen-run written encode
   joining-done z =
       let y : k + 0 ≡ k = omega arith in
       let cs = chars (drop (p .at) text) in
-      let none = join-none (ltb n k) (p .mark) cs (w .clear) (word-none isNonSpace nonspace-end (p .mark) cs (span-none s z)) in
+      let none = join-none (ltb n k) (p .mark) cs (w .clear) (run-of-none is-non-space nonspace-end (p .mark) cs (span-none s z)) in
       record { same = sym (w .whole ∙ rw (none, y)); kept = w .kept; ahead = (w .stands, w .few) }
 
   abbrev named : Run
-  named = word isNonSpace (p .mark) (chars (drop (p .at) text))
+  named = run-of is-non-space (p .mark) (chars (drop (p .at) text))
 
   -- no character of a word stands behind it, so the next word is behind a blank
-  ended : isNonSpace (seen text e) ≡ false
-  ended = ap (λ (x : definition.Place). isNonSpace (look x)) (s .moves .same) ∙ word-end isNonSpace nonspace-end (p .mark) (chars (drop (p .at) text))
+  ended : is-non-space (seen text e) ≡ false
+  ended = ap (λ (x : definition.Place). is-non-space (look x)) (s .moves .same) ∙ run-of-end is-non-space nonspace-end (p .mark) (chars (drop (p .at) text))
 
-  apart : (q : Place) → e .at ≤ q .at → isNonSpace (seen text q) ≡ true → e .at < q .at
+  apart : (q : Place) → e .at ≤ q .at → is-non-space (seen text q) ≡ true → e .at < q .at
   apart q o f =
       by-test (ltb (e .at) (q .at)) (ltb-true (e .at) (q .at))
       (λ g. let z : q .at ≡ e .at = omega (arith, ltb-false (e .at) (q .at) g) in
@@ -137,7 +137,7 @@ module _ {text before out : List ℕ} {from p e : Place} {n k : ℕ} (w : Joinin
       let room-is : sets out k (encode x) ≡ out' = rw (bytes, s .bytes) (sym (c ∙ rw (a, b) (sets-join sp (part text (p .at) (e .at)) out k))) in
       let count : k + length (encode x) ≡ k' = rw (bytes, length-append sp (encode (named .text))) (omega arith) in
       let some = span-some s z in
-      let few = spaced-few n k (from .at) (n + p .at) (w .few) (w .room (word-some isNonSpace nonspace-end (p .mark) cs some)) in
+      let few = spaced-few n k (from .at) (n + p .at) (w .few) (w .room (run-of-some is-non-space nonspace-end (p .mark) cs some)) in
       record {
         stands = m .stands;
         many = omega (arith, w .many);

@@ -14,14 +14,15 @@ use Rattle.yaml_text.specs.Class.{same}
 use Rattle.yaml_text.specs.Mark as definition
 use Rattle.yaml_text.specs.Refusal.{got}
 use Rattle.yaml_text.specs.Test.{by-test, on-pick}
-use Rattle.yaml_text.specs.Utf8.{bytesOf, encode}
+use Rattle.yaml_text.specs.Utf8.{char-bytes, encode}
 use Rattle.yaml_text.specs.Utf8Laws.{bytes1}
-use Rattle.yaml_lexeme.specs.Directive.{directive-of, reserved-directive, tag-directive, version-directive}
+use Rattle.yaml_lexeme.specs.Directive.{directive-of, reserved-directive, tag-directive, tag-name, version-directive, yaml-name}
 use Rattle.chars.specs.declared.mark.Place.{Place}
 use Rattle.chars.specs.Parts.{Spans, part}
 use Rattle.chars.specs.View.{view}
 use Rattle.reading.specs.declared.Reading.{Reading}
-use Rattle.reading.specs.Drafts.{Drafts, behind-first}
+use Rattle.reading.specs.Answers.{behind-first}
+use Rattle.reading.specs.Reading.{Lexes}
 use Rattle.directives.specs.Name.{name-in}
 
 and-false : (b : Bool) → (b && false) ≡ false
@@ -93,8 +94,8 @@ Low (y ∷ ys) = (y < 128) × Low ys
 abbrev High : List ℕ → Type 0
 High l = (b : ℕ) × (t : List ℕ) × (l ≡ b ∷ t) × (128 ≤ b)
 
-bytes-high : (c : ℕ) → 128 ≤ c → High (bytesOf c)
-unfolding bytesOf
+bytes-high : (c : ℕ) → 128 ≤ c → High (char-bytes c)
+unfolding char-bytes
 bytes-high c h =
     on-pick High (ltb c 0x80) (λ e. (c, [], refl, h))
     (λ _. on-pick High (ltb c 0x800) (λ _. (_, _, refl, omega arith))
@@ -113,28 +114,22 @@ same-encode (c ∷ t) s l =
     low [] l f = refl
     low (y ∷ s) l f = rw (f s (l .1))
 
-    high : (s : List ℕ) → Low s → 128 ≤ c → (b : High (bytesOf c)) → same (b .0 ∷ b .1 ++ encode t) s ≡ same (c ∷ t) s
+    high : (s : List ℕ) → Low s → 128 ≤ c → (b : High (char-bytes c)) → same (b .0 ∷ b .1 ++ encode t) s ≡ same (c ∷ t) s
     high [] l h b = refl
     high (y ∷ s) l h b = rw (ne-eqb (b .0) y (omega (arith, l .0, b .3)), ne-eqb c y (omega (arith, l .0)))
 
-abbrev YAML : List ℕ
-YAML = 89 ∷ 65 ∷ 77 ∷ 76 ∷ []
-
-abbrev TAG : List ℕ
-TAG = 84 ∷ 65 ∷ 71 ∷ []
-
 -- the directive, by its name
 module _ (start : Mark) (name : List ℕ) (p : definition.Place) where
-  is-version : same name YAML ≡ true → directive-of start name p ≡ version-directive start p
+  is-version : same name yaml-name ≡ true → directive-of start name p ≡ version-directive start p
   unfolding directive-of
   is-version e = rw (e, directive-of)
 
-  module _ (e : same name YAML ≡ false) where
-    is-tag : same name TAG ≡ true → directive-of start name p ≡ tag-directive start p
+  module _ (e : same name yaml-name ≡ false) where
+    is-tag : same name tag-name ≡ true → directive-of start name p ≡ tag-directive start p
     unfolding directive-of
     is-tag f = rw (e, f, directive-of)
 
-    is-reserved : same name TAG ≡ false → directive-of start name p ≡ got (reserved-directive start name p)
+    is-reserved : same name tag-name ≡ false → directive-of start name p ≡ got (reserved-directive start name p)
     unfolding directive-of
     is-reserved f = rw (e, f, directive-of)
 
@@ -145,23 +140,23 @@ module _ (start : Mark) {text : List ℕ} {p : Place} (s : Spans text (behind-fi
   spelled : (t : List ℕ) → Low t → {b : Bool} → b ≡ same (part text 1 (p .at)) t → same name t ≡ b
   spelled t l e = sym (e ∙ rw (← (s .bytes)) (same-encode name t l))
 
-  module _ {b : Bool} (e : b ≡ same (part text 1 (p .at)) YAML) where
-    as-yaml : same name YAML ≡ b
-    as-yaml = spelled YAML (omega arith, (omega arith, (omega arith, (omega arith, tt)))) e
+  module _ {b : Bool} (e : b ≡ same (part text 1 (p .at)) yaml-name) where
+    as-yaml : same name yaml-name ≡ b
+    as-yaml = spelled yaml-name (omega arith, (omega arith, (omega arith, (omega arith, tt)))) e
 
-    pub of-version : {before after : List ℕ} {used : ℕ} {r : Reading} → b ≡ true → Drafts text before after used r (version-directive start (view text p))
-        → Drafts text before after used r (directive-of start name (view text p))
+    pub of-version : {before after : List ℕ} {used : ℕ} {r : Reading} → b ≡ true → Lexes text before after used r (version-directive start (view text p))
+        → Lexes text before after used r (directive-of start name (view text p))
     of-version f d = rw (is-version start name (view text p) (as-yaml ∙ f)) d
 
-    module _ {a : Bool} (f : b ≡ false) (g : a ≡ same (part text 1 (p .at)) TAG) where
-      as-tag : same name TAG ≡ a
-      as-tag = spelled TAG (omega arith, (omega arith, (omega arith, tt))) g
+    module _ {a : Bool} (f : b ≡ false) (g : a ≡ same (part text 1 (p .at)) tag-name) where
+      as-tag : same name tag-name ≡ a
+      as-tag = spelled tag-name (omega arith, (omega arith, (omega arith, tt))) g
 
-      pub of-tag : {before after : List ℕ} {used : ℕ} {r : Reading} → a ≡ true → Drafts text before after used r (tag-directive start (view text p))
-          → Drafts text before after used r (directive-of start name (view text p))
+      pub of-tag : {before after : List ℕ} {used : ℕ} {r : Reading} → a ≡ true → Lexes text before after used r (tag-directive start (view text p))
+          → Lexes text before after used r (directive-of start name (view text p))
       of-tag h d = rw (is-tag start name (view text p) (as-yaml ∙ f) (as-tag ∙ h)) d
 
       pub of-other : {before after : List ℕ} {used : ℕ} {r : Reading} → a ≡ false
-          → Drafts text before after used r (got (reserved-directive start name (view text p)))
-          → Drafts text before after used r (directive-of start name (view text p))
+          → Lexes text before after used r (got (reserved-directive start name (view text p)))
+          → Lexes text before after used r (directive-of start name (view text p))
       of-other h d = rw (is-reserved start name (view text p) (as-yaml ∙ f) (as-tag ∙ h)) d

@@ -13,19 +13,18 @@ use Rattle.yaml_text.specs.Utf8.{chars}
 use Rattle.yaml_lexeme.specs.declared.Kind.the-variants as kind
 use Rattle.yaml_lexeme.specs.declared.Text.{Text}
 use Rattle.yaml_lexeme.specs.Directive.{parameters, reserved-directive}
-use Rattle.yaml_lexeme.specs.Held.{laid}
+use Rattle.yaml_lexeme.specs.Record.{laid}
 use Rattle.yaml_lexeme.specs.Token.{ReservedDirective, kind-bytes, lexeme}
 use Rattle.chars.specs.declared.mark.Place.{Place}
 use Rattle.chars.specs.Parts.{part}
 use Rattle.chars.specs.View.{view}
 use Rattle.reading.specs.declared.Reading.{Reading}
 use Rattle.reading.specs.declared.Reading.the-variants.{Got}
-use Rattle.reading.specs.Drafts.{Drafts}
-use Rattle.reading.specs.Reading.{text-size}
-use Rattle.words.specs.declared.Run.the-variants.{To}
-use Rattle.words.specs.Run.{Writes}
-use Rattle.words.specs.RunLaws.{Ran, ran}
-use Rattle.directives.specs.Name.{Named, name-in}
+use Rattle.reading.specs.Reading.{Lexes, text-size}
+use Rattle.runs.specs.declared.Run.the-variants.{To}
+use Rattle.runs.specs.Run.{Writes}
+use Rattle.runs.specs.RunLaws.{Ran, ran}
+use Rattle.directives.specs.Name.{NameAt, name-in}
 use Rattle.directives.proofs.Spans.{span-front}
 use Rattle.directives.proofs.Texts.{Pairs, texts-got}
 
@@ -44,11 +43,11 @@ module _ {text mid after : List ℕ} {k : ℕ} {p q : Place}
   pub joined : Ran text mid after p (p .at - 1) q k (got (parameters false false (p .mark) (chars (drop (p .at) text))))
   joined = ran w refl
 
-  pub reserved-got : {before : List ℕ} {start : Mark} {used : ℕ} {a b : Text} {x : ℕ} {r : Reading} → Named text start used p
+  pub reserved-got : {before : List ℕ} {start : Mark} {used : ℕ} {a b : Text} {x : ℕ} {r : Reading} → NameAt text start used p
       → mid ≡ sets before 0 (part text 1 (p .at))
       → a ≡ record { at = used; len = (p .at - 1) % 2 ^ 32 } → x ≡ (p .at - 1) % 2 ^ 32 → b ≡ record { at = used + x; len = (k - (p .at - 1)) % 2 ^ 32 }
       → r ≡ Got (record { token = record { kind = kind.ReservedDirective a b; start = start; end = q .mark }; next = q })
-      → Drafts text before after used r (got (reserved-directive start (name-in text start .text) (view text p)))
+      → Lexes text before after used r (got (reserved-directive start (name-in text start .text) (view text p)))
   reserved-got {start = start} h c ta tx tb g =
       let o = h .name .moves .onward in
       texts-got reserved-pairs (h .indicated .given) (span-front (h .name) c) (omega arith) o joined ta tx tb g

@@ -15,8 +15,8 @@ use Rattle.chars.specs.Bytes.{CharAt}
 use Rattle.chars.specs.Parts.{Spans, part, part-join, part-more, part-none}
 use Rattle.chars.specs.Places.{stands-along}
 use Rattle.chars.specs.View.{past}
-use Rattle.words.specs.Encode.{encode-one}
-use Rattle.words.specs.RunLaws.{span-size}
+use Rattle.runs.specs.Encode.{encode-one}
+use Rattle.runs.specs.RunLaws.{span-size}
 use Rattle.directives.specs.Front.{Fronts}
 
 module _ {text : List ℕ} {p q : Place} {c n : ℕ} where

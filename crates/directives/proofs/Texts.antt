@@ -9,15 +9,15 @@ use Rattle.yaml_text.specs.Refusal.{Read, got}
 use Rattle.yaml_text.specs.Utf8.{encode}
 use Rattle.yaml_lexeme.specs.declared.Kind.{Kind as HeldKind}
 use Rattle.yaml_lexeme.specs.declared.Text.{Text}
-use Rattle.yaml_lexeme.specs.Held.{laid, text-at}
+use Rattle.yaml_lexeme.specs.Record.{laid, text-at}
 use Rattle.yaml_lexeme.specs.Token.{Kind, Lexeme, kind-bytes, lexeme, size}
 use Rattle.chars.specs.declared.mark.Place.{Place}
 use Rattle.chars.specs.View.{view}
 use Rattle.reading.specs.declared.Reading.{Reading}
 use Rattle.reading.specs.declared.Reading.the-variants.{Got}
-use Rattle.reading.specs.Drafts.{Drafts, drafts-got, texts-at}
-use Rattle.reading.specs.Reading.{Given, text-size}
-use Rattle.words.specs.RunLaws.{Ran}
+use Rattle.reading.specs.Answers.{lexes-got, texts-at}
+use Rattle.reading.specs.Reading.{Given, Lexes, text-size}
+use Rattle.runs.specs.RunLaws.{Ran}
 use Rattle.directives.specs.Front.{Fronts}
 use Rattle.directives.proofs.Spans.{front-behind}
 
@@ -33,12 +33,12 @@ pub texts-got : {one : List ℕ → List ℕ → Kind} {held : Text → Text →
     → a ≡ record { at = used; len = n % 2 ^ 32 } → x ≡ n % 2 ^ 32 → b ≡ record { at = used + x; len = (k - n) % 2 ^ 32 }
     → r ≡ Got (record { token = record { kind = held a b; start = start; end = q .mark }; next = q })
     → e ≡ got (lexeme (one h (t .run)) start (q .mark) (view text q))
-    → Drafts text before after used r e
+    → Lexes text before after used r e
 texts-got {h = h} {used = used} {n = n} {k = k} {q = q} {a = a} {b = b} pairs given f few some t ta tx tb g i =
     let u : k - n ≡ size (t .run) = omega (arith, t .next) in
     let o : n + (k - n) ≤ q .at = omega (arith, t .few, t .next) in
     let at = texts-at given h (t .run) (sym (f .count)) u (omega (arith, o, t .stands .within)) ta tx tb in
-    drafts-got g i
+    lexes-got g i
     (rw (pairs .laid-is used h (t .run), at .0, at .1))
     refl
     (rw (pairs .bytes-is h (t .run)) (front-behind f (t .run) (t .bytes)))

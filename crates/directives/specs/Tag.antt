@@ -2,7 +2,7 @@
 use Prim.Native.Nat.{ℕ}
 use mathlib.Core.List.{List}
 use Rattle.yaml_text.specs.declared.Mark.{Mark}
-use Rattle.yaml_text.specs.Class.{isBlankOrBreakz}
+use Rattle.yaml_text.specs.Class.{is-blank-or-breakz}
 use Rattle.yaml_text.specs.Mark.{Run, look}
 use Rattle.yaml_text.specs.Mark as definition
 use Rattle.yaml_text.specs.Refusal.{Read, _>>=_, got, need, refused}
@@ -22,5 +22,5 @@ pub data Handles (text : List ℕ) (p : Place) : Reached → Read Run → Type 0
 unfoldable pub prefixed : Mark → List ℕ → definition.Place → Read Lexeme
 prefixed start h p = do
   r ← tag-prefix start (blanks-at p)
-  _ ← need (isBlankOrBreakz (look (r .place))) 19 start
+  _ ← need (is-blank-or-breakz (look (r .place))) 19 start
   got (lexeme (TagDirective h (r .text)) start (r .place .mark) (r .place))

@@ -20,13 +20,13 @@ unfoldable pub seen-number : List ℕ → Numbered → Read directive.Numbered
 seen-number text (Got v q) = got (record { value = v; place = view text q })
 seen-number text (Refused f) = refused (f .number) (f .mark)
 
-abbrev pub Ahead : List ℕ → Place → Numbered → Type 0
-Ahead text p (Got v q) = Stands text q × (p .at ≤ q .at)
-Ahead text p (Refused f) = Unit {0}
+abbrev pub BehindNumber : List ℕ → Place → Numbered → Type 0
+BehindNumber text p (Got v q) = Stands text q × (p .at ≤ q .at)
+BehindNumber text p (Refused f) = Unit {0}
 
 pub record Numbers (text : List ℕ) (p : Place) (r : Numbered) (d : Read directive.Numbered) : Type 0 where
   pub same : seen-number text r ≡ d
-  pub ahead : Ahead text p r
+  pub ahead : BehindNumber text p r
 
 unfoldable pub minor-version : Mark → ℕ → definition.Place → Read Lexeme
 minor-version start major p = do

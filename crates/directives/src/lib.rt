@@ -6,10 +6,9 @@ ghost use Rattle.yaml_text.specs.Class.{same};
 ghost use Rattle.yaml_lexeme.specs.Directive.{directive-of, scan-directive};
 ghost use Rattle.chars.specs.Parts.{part};
 ghost use Rattle.chars.specs.View.{view};
-ghost use Rattle.reading.specs.Drafts.{Drafts};
 ghost use Rattle.reading.specs.Reading.{Behind, Indicated, Lexes, first-at};
-ghost use Rattle.directives.specs.Line.{Ends};
-ghost use Rattle.directives.specs.Name.{Named, name-in};
+ghost use Rattle.directives.specs.Line.{LineEnds};
+ghost use Rattle.directives.specs.Name.{NameAt, name-in};
 use crate::reserved::reserved_directive;
 use crate::tag::tag_directive;
 use crate::version::version_directive;
@@ -23,14 +22,15 @@ use reading::Reached;
 use reading::Reading;
 use reading::clear_refused;
 use reading::refuse;
+use reading::refuse_out;
+use runs::Class;
+use runs::run_of;
 use utf8::look;
-use words::Class;
-use words::word;
 use yaml_text::Mark;
 
-pub mod reserved;
-pub mod tag;
-pub mod version;
+mod reserved;
+mod tag;
+mod version;
 
 // Whether the name that ends at `to` is made of these bytes.
 fn spells(text: &[u8], to: usize, name: &[u8]) -> bool
@@ -52,12 +52,12 @@ fn spells(text: &[u8], to: usize, name: &[u8]) -> bool
 
 // By its name, which ends at p: YAML, TAG, any other.
 fn directive_of(text: &[u8], start: Mark, p: Place, used: u32, out: &mut [u8]) -> Reading
-    requires { ⌜ Named (now text) start used p ⌝ }
-    ensures { λ r. ⌜ Drafts (now (text .entry)) (now (out .entry)) (now (out .exit)) used r (directive-of start (name-in (now (text .entry)) start .text) (view (now (text .entry)) p)) ⌝ }
+    requires { ⌜ NameAt (now text) start used p ⌝ }
+    ensures { λ r. ⌜ Lexes (now (text .entry)) (now (out .entry)) (now (out .exit)) used r (directive-of start (name-in (now (text .entry)) start .text) (view (now (text .entry)) p)) ⌝ }
 {
     let to = p.at;
     if spells(text, to, b"YAML") {
-        return version_directive(text, start, p);
+        return clear_refused(version_directive(text, start, p), out);
     }
     if spells(text, to, b"TAG") {
         return tag_directive(text, start, p, used, out);
@@ -68,7 +68,7 @@ fn directive_of(text: &[u8], start: Mark, p: Place, used: u32, out: &mut [u8]) -
 // The rest of a directive's line, and past it. 15: no comment or break.
 fn line_end(text: &[u8], start: Mark, l: Lexeme) -> Reading
     requires { ⌜ Behind (now text) l ⌝ }
-    ensures { λ r. ⌜ Ends (now (text .entry)) start l r ⌝ }
+    ensures { λ r. ⌜ LineEnds (now (text .entry)) start l r ⌝ }
 {
     let r = blanks_and_comment(text, l.next);
     match r {
@@ -87,32 +87,24 @@ fn line_end(text: &[u8], start: Mark, l: Lexeme) -> Reading
     }
 }
 
-// 10: no name; 11: the name is stopped by a BOM.
-fn read_directive(text: &[u8], start: Mark, used: u32, out: &mut [u8]) -> Reading
+// From its '%', and past its line. 10: no name; 11: the name is stopped by a BOM.
+pub fn scan_directive(text: &[u8], start: Mark, used: u32, out: &mut [u8]) -> Reading
     requires { ⌜ Indicated (now text) start used ⌝ }
-    ensures { λ r. ⌜ Drafts (now (text .entry)) (now (out .entry)) (now (out .exit)) used r (scan-directive (view (now (text .entry)) (first-at start))) ⌝ }
+    ensures { λ r. ⌜ Lexes (now (text .entry)) (now (out .entry)) (now (out .exit)) used r (scan-directive (view (now (text .entry)) (first-at start))) ⌝ }
 {
     let first = Place { at: 0, mark: start };
     let name = first.skip_blank();
-    let p = word(text, name, Class::NonSpace);
+    let p = run_of(text, name, Class::NonSpace);
     let to = p.at;
     if to == 1 {
-        return refuse(10, name.mark);
+        return refuse_out(10, name.mark, out);
     }
     if is_blank_or_breakz(look(text, to)) {
         let r = directive_of(text, start, p, used, out);
         let Reading::Got(l) = r else {
             return r;
         };
-        return line_end(text, start, l);
+        return clear_refused(line_end(text, start, l), out);
     }
-    refuse(11, name.mark)
-}
-
-// From its '%', and past its line.
-pub fn scan_directive(text: &[u8], start: Mark, used: u32, out: &mut [u8]) -> Reading
-    requires { ⌜ Indicated (now text) start used ⌝ }
-    ensures { λ r. ⌜ Lexes (now (text .entry)) (now (out .entry)) (now (out .exit)) used r (scan-directive (view (now (text .entry)) (first-at start))) ⌝ }
-{
-    clear_refused(read_directive(text, start, used, out), out)
+    refuse_out(11, name.mark, out)
 }

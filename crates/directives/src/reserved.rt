@@ -8,20 +8,20 @@ ghost use Rattle.yaml_text.specs.Refusal.{got};
 ghost use Rattle.yaml_text.specs.Utf8.{chars};
 ghost use Rattle.yaml_lexeme.specs.Directive.{parameters, reserved-directive};
 ghost use Rattle.chars.specs.View.{Stands, view};
-ghost use Rattle.reading.specs.Drafts.{Drafts};
-ghost use Rattle.words.specs.declared.Run.the-variants.{To};
-ghost use Rattle.words.specs.Run.{Writes};
-ghost use Rattle.directives.specs.Name.{Named, name-in, spaced};
+ghost use Rattle.reading.specs.Reading.{Lexes};
+ghost use Rattle.runs.specs.declared.Run.the-variants.{To};
+ghost use Rattle.runs.specs.Run.{Writes};
+ghost use Rattle.directives.specs.Name.{NameAt, name-in, spaced};
 use chars::mark::Place;
 use gaps::skip_blanks;
 use reading::Reading;
 use reading::got;
 use reading::text_at;
+use rooms::as_word as count;
 use rooms::copy;
 use rooms::put;
-use rooms::word as count;
-use words::Class;
-use words::word;
+use runs::Class;
+use runs::run_of;
 use yaml_lexeme::Kind;
 use yaml_text::Mark;
 
@@ -31,7 +31,7 @@ fn put_space(out: &mut [u8], n: usize, k: usize) -> usize
     ensures { λ r. ⌜ (now (out .exit) ≡ sets (now (out .entry)) k (spaced n k)) × (r ≡ k + length (spaced n k)) ⌝ }
 {
     if n < k {
-        put(out, k, 32);
+        put(out, k, b' ');
         return k + 1;
     }
     k
@@ -52,7 +52,7 @@ fn read_parameters(text: &[u8], from: Place, n: usize, out: &mut [u8]) -> Parame
     let mut k = n;
     loop {
         let at = p.at;
-        let e = word(text, p, Class::NonSpace);
+        let e = run_of(text, p, Class::NonSpace);
         let to = e.at;
         if to == at {
             return Parameters { place: p, count: k };
@@ -66,8 +66,8 @@ fn read_parameters(text: &[u8], from: Place, n: usize, out: &mut [u8]) -> Parame
 
 // Whose name ends at p.
 pub fn reserved_directive(text: &[u8], start: Mark, p: Place, used: u32, out: &mut [u8]) -> Reading
-    requires { ⌜ Named (now text) start used p ⌝ }
-    ensures { λ r. ⌜ Drafts (now (text .entry)) (now (out .entry)) (now (out .exit)) used r (got (reserved-directive start (name-in (now (text .entry)) start .text) (view (now (text .entry)) p))) ⌝ }
+    requires { ⌜ NameAt (now text) start used p ⌝ }
+    ensures { λ r. ⌜ Lexes (now (text .entry)) (now (out .entry)) (now (out .exit)) used r (got (reserved-directive start (name-in (now (text .entry)) start .text) (view (now (text .entry)) p))) ⌝ }
 {
     let to = p.at;
     copy(out, 0, &text[1..to]);

@@ -1,12 +1,11 @@
 // %YAML (12 to 14).
-ghost use mathlib.Core.List.{List};
 ghost use mathlib.Core.Path.{_≡_};
 ghost use Prim.Native.Nat.{_≤_, ℕ};
 ghost use lib.ListN.{drop};
 ghost use Rattle.yaml_text.specs.Utf8.{chars};
 ghost use Rattle.yaml_lexeme.specs.Directive.{version-digits, version-directive, version-number};
 ghost use Rattle.chars.specs.View.{Stands, view};
-ghost use Rattle.reading.specs.Drafts.{Drafts};
+ghost use Rattle.reading.specs.Answers.{Answers};
 ghost use Rattle.directives.specs.declared.version.Numbered.the-variants.{Refused};
 ghost use Rattle.directives.specs.Version.{Numbers, minor-version};
 use chars::class::is_digit;
@@ -22,7 +21,7 @@ use yaml_text::Refusal;
 
 // A number with the place behind it, or a refusal.
 enum Numbered {
-    Got(u32, Place),
+    Got { value: u32, place: Place },
     Refused(Refusal),
 }
 
@@ -54,7 +53,7 @@ fn version_digits(text: &[u8], start: Mark, from: Place) -> Numbered
             n += 1;
             p = p.skip_blank();
         } else {
-            return Numbered::Got(v, p);
+            return Numbered::Got { value: v, place: p };
         }
     }
 }
@@ -74,14 +73,21 @@ fn version_number(text: &[u8], start: Mark, p: Place) -> Numbered
 // The rest of a version, behind its first number. 13: no '.'.
 fn minor_version(text: &[u8], start: Mark, major: u32, p: Place) -> Reading
     requires { ⌜ Stands (now text) p × (1 ≤ p .at) ⌝ }
-    ensures { λ r. ⌜ ((before : List ℕ) (used : ℕ) → Drafts (now (text .entry)) before before used r (minor-version start major (view (now (text .entry)) p))) ⌝ }
+    ensures { λ r. ⌜ ((used : ℕ) → Answers (now (text .entry)) used r (minor-version start major (view (now (text .entry)) p))) ⌝ }
 {
     let at = p.at;
-    if byte(text, at) == 46 {
+    if byte(text, at) == b'.' {
         let minor = version_number(text, start, p.skip_blank());
         return match minor {
             Numbered::Refused(f) => Reading::Refused(f),
-            Numbered::Got(v, e) => got(Kind::VersionDirective(major, v), start, e.mark, e),
+            Numbered::Got { value, place } => {
+                got(
+                    Kind::VersionDirective(major, value),
+                    start,
+                    place.mark,
+                    place,
+                )
+            }
         };
     }
     refuse(13, start)
@@ -90,11 +96,11 @@ fn minor_version(text: &[u8], start: Mark, major: u32, p: Place) -> Reading
 // Behind its name.
 pub fn version_directive(text: &[u8], start: Mark, p: Place) -> Reading
     requires { ⌜ Stands (now text) p × (1 ≤ p .at) ⌝ }
-    ensures { λ r. ⌜ ((before : List ℕ) (used : ℕ) → Drafts (now (text .entry)) before before used r (version-directive start (view (now (text .entry)) p))) ⌝ }
+    ensures { λ r. ⌜ ((used : ℕ) → Answers (now (text .entry)) used r (version-directive start (view (now (text .entry)) p))) ⌝ }
 {
     let major = version_number(text, start, skip_blanks(text, p));
     match major {
         Numbered::Refused(f) => Reading::Refused(f),
-        Numbered::Got(v, q) => minor_version(text, start, v, q),
+        Numbered::Got { value, place } => minor_version(text, start, value, place),
     }
 }

@@ -2,7 +2,8 @@
 ghost use Prim.Native.Nat.{_≤_};
 ghost use lib.ListN.{length};
 use libc::STDOUT_FILENO;
-use lines::say_numbers;
+use printing::say_numbers;
+use records::RECORD_WORDS;
 use scanner::Answer;
 use scanner::scan;
 
@@ -31,7 +32,7 @@ fn say_answer(what: &[u8], a: Answer) {
 fn say_levels(what: &[u8], levels: usize, text: &mut [u8])
     requires { ⌜ (levels ≤ 256) × (512 ≤ length (now text)) ⌝ }
 {
-    let mut words = [7u32; 6168];
+    let mut words = [7u32; 514 * RECORD_WORDS];
     let mut bytes = [7u8; 1];
     let end = 2 * levels;
     fill(&mut text[0..levels], 91);
@@ -40,7 +41,7 @@ fn say_levels(what: &[u8], levels: usize, text: &mut [u8])
 }
 
 fn say_version(what: &[u8], text: &[u8]) {
-    let mut words = [7u32; 36];
+    let mut words = [7u32; 3 * RECORD_WORDS];
     let mut bytes = [7u8; 1];
     say_answer(what, scan(text, &mut words, &mut bytes));
 }
@@ -49,7 +50,7 @@ fn say_version(what: &[u8], text: &[u8]) {
 fn say_plain(what: &[u8], size: usize, text: &mut [u8], bytes: &mut [u8])
     requires { ⌜ size ≤ length (now text) ⌝ }
 {
-    let mut words = [7u32; 36];
+    let mut words = [7u32; 3 * RECORD_WORDS];
     fill(&mut text[0..size], 97);
     say_answer(what, scan(&text[0..size], &mut words, bytes));
 }

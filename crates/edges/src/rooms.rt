@@ -3,7 +3,8 @@ ghost use Prim.Native.Nat.{_<_, _^_, _≤_};
 ghost use lib.ListN.{length};
 use libc::STDIN_FILENO;
 use libc::STDOUT_FILENO;
-use lines::say_numbers;
+use printing::say_numbers;
+use records::RECORD_WORDS;
 use scanner::scan;
 use tokenglade::numbers_of;
 use vectors::enough_words;
@@ -92,7 +93,7 @@ fn expected(number: u32, whole: [u32; 6]) -> [u32; 6] {
 }
 
 fn lent(room: Small, t: u32, d: u32) -> Loan {
-    let words = t as usize * 12;
+    let words = t as usize * RECORD_WORDS;
     let bytes = d as usize;
     match room {
         Small::Nothing => Loan {
@@ -195,7 +196,7 @@ fn in_small_rooms(s: &[u8], words: &mut [u32], bytes: &mut [u8], room: Small) ->
 
 // Rooms hold what the text before left there.
 fn say_room(what: &[u8], s: &[u8], room: Small) {
-    let mut words = [7u32; 98340];
+    let mut words = [7u32; 8195 * RECORD_WORDS];
     let mut bytes = [7u8; 6144];
     let n = in_small_rooms(s, &mut words, &mut bytes, room);
     io::write_all(STDOUT_FILENO, what);

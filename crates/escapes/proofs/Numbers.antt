@@ -9,7 +9,7 @@ use native.Mathlib.Omega.{arith}
 use lib.Dec.{T, ltb, ltb→lt}
 use lib.ListN.{drop, getD}
 use Rattle.yaml_text.specs.declared.Mark.{Mark}
-use Rattle.yaml_text.specs.Class.{asHex, isDigit, isHex, peek}
+use Rattle.yaml_text.specs.Class.{as-hex, is-digit, is-hex, peek}
 use Rattle.yaml_text.specs.Refusal.{refused}
 use Rattle.yaml_text.specs.Utf8.{chars}
 use Rattle.yaml_lexeme.specs.Escape.{hex-number}
@@ -21,24 +21,24 @@ use Rattle.escapes.specs.declared.hex.Hex.the-variants.{Missing, Value}
 use Rattle.escapes.specs.Parts.{NumberAt}
 
 abbrev fits : ℕ → Bool
-fits c = not (isHex c) || ltb (asHex c) 16
+fits c = not (is-hex c) || ltb (as-hex c) 16
 
 all-fit : T (all-below 128 fits)
-unfolding isHex isDigit asHex
+unfolding is-hex is-digit as-hex
 all-fit = tt
 
 -- the value of a digit
-pub digit-value : (c : ℕ) → isHex c ≡ true → asHex c < 16
+pub digit-value : (c : ℕ) → is-hex c ≡ true → as-hex c < 16
 digit-value c e =
     let t = below 128 fits all-fit c (ascii-low hex-ascii c e .1) in
-    ltb→lt (asHex c) 16 (rw e at t)
+    ltb→lt (as-hex c) 16 (rw e at t)
 
 module _ (start : Mark) (n v : ℕ) (cs : List ℕ) where
-  pub digit-more : isHex (peek cs 0) ≡ true → hex-number start (suc n) v cs ≡ hex-number start n (v * 16 + asHex (peek cs 0)) (drop 1 cs)
+  pub digit-more : is-hex (peek cs 0) ≡ true → hex-number start (suc n) v cs ≡ hex-number start n (v * 16 + as-hex (peek cs 0)) (drop 1 cs)
   unfolding hex-number
   digit-more e = rw (e, hex-number)
 
-  pub digit-none : isHex (peek cs 0) ≡ false → hex-number start (suc n) v cs ≡ refused 38 start
+  pub digit-none : is-hex (peek cs 0) ≡ false → hex-number start (suc n) v cs ≡ refused 38 start
   unfolding hex-number
   digit-none e = rw (e, hex-number)
 
@@ -68,7 +68,7 @@ module _ {text : List ℕ} {at n v i : ℕ} (w : Reading text at n v i) (h : i <
   left : n - i ≡ suc (n - (i + 1))
   left = omega arith
 
-  pub reading-more : {c r : ℕ} → c ≡ getD text (at + i) 0 → isHex c ≡ true → r ≡ asHex c → Reading text at n (v * 16 + r) (i + 1)
+  pub reading-more : {c r : ℕ} → c ≡ getD text (at + i) 0 → is-hex c ≡ true → r ≡ as-hex c → Reading text at n (v * 16 + r) (i + 1)
   reading-more {c} e f g =
       let d = ascii-char text (at + i) c e hex-ascii f in
       let q = pow-suc 16 i in
@@ -81,7 +81,7 @@ module _ {text : List ℕ} {at n v i : ℕ} (w : Reading text at n v i) (h : i <
         whole = λ start. w .whole start ∙ rw (left, d .next, s, g) (digit-more start (n - (i + 1)) v (c ∷ chars (drop (at + i + 1) text)) f);
       }
 
-  pub reading-stop : {c : ℕ} → c ≡ getD text (at + i) 0 → isHex c ≡ false → NumberAt text at n Missing
+  pub reading-stop : {c : ℕ} → c ≡ getD text (at + i) 0 → is-hex c ≡ false → NumberAt text at n Missing
   reading-stop {c} e f =
       record {
         same = λ start. w .whole start

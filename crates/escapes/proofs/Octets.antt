@@ -6,7 +6,7 @@ use native.Mathlib.Omega.{arith}
 use lib.ListN.{drop, getD}
 use lib.Seq.{getD-drop}
 use Rattle.yaml_text.specs.declared.Mark.{Mark}
-use Rattle.yaml_text.specs.Class.{asHex, isHex, peek}
+use Rattle.yaml_text.specs.Class.{as-hex, is-hex, peek}
 use Rattle.yaml_text.specs.Refusal.{Read, got, refused}
 use Rattle.yaml_text.specs.Test.{by-test}
 use Rattle.yaml_text.specs.Utf8.{chars}
@@ -29,11 +29,11 @@ octet-number : (start : Mark) (cs : List ℕ) → octet start (37 ∷ cs) ≡ as
 unfolding octet hex-number
 octet-number start cs =
     let k : peek (drop 1 cs) 0 ≡ peek cs 1 = getD-drop 1 cs 0 0 in
-    let z : 0 * 16 + asHex (peek cs 0) ≡ asHex (peek cs 0) = omega arith in
-    by-test (isHex (peek cs 0))
-    (λ e. by-test (isHex (peek cs 1))
-    (λ f. rw (e, f, digit-more start 1 0 cs e, digit-more start 0 (0 * 16 + asHex (peek cs 0)) (drop 1 cs) (rw k f), k, z))
-    (λ f. rw (e, f, digit-more start 1 0 cs e, digit-none start 0 (0 * 16 + asHex (peek cs 0)) (drop 1 cs) (rw k f))))
+    let z : 0 * 16 + as-hex (peek cs 0) ≡ as-hex (peek cs 0) = omega arith in
+    by-test (is-hex (peek cs 0))
+    (λ e. by-test (is-hex (peek cs 1))
+    (λ f. rw (e, f, digit-more start 1 0 cs e, digit-more start 0 (0 * 16 + as-hex (peek cs 0)) (drop 1 cs) (rw k f), k, z))
+    (λ f. rw (e, f, digit-more start 1 0 cs e, digit-none start 0 (0 * 16 + as-hex (peek cs 0)) (drop 1 cs) (rw k f))))
     (λ e. rw (e, digit-none start 1 0 cs e))
 
 same-refusal : (start : Mark) (r : Hex) → as-refusal 21 (hex-read 38 start r) ≡ hex-read 21 start r

@@ -14,7 +14,7 @@ use Rattle.yaml_text.specs.declared.Decoded.the-variants.{Char, End, Ill}
 use Rattle.yaml_text.proofs.Decoded.{the-type}
 use Rattle.yaml_text.specs.declared.Mark.{Mark}
 use Rattle.yaml_text.specs.Refusal.{_>>=_, got, need, refused}
-use Rattle.yaml_text.specs.Utf8.{chars, first, lenOf}
+use Rattle.yaml_text.specs.Utf8.{chars, first, len-of}
 use Rattle.yaml_lexeme.specs.Tag.{code-point, percent, trailing}
 use Rattle.utf8.proofs.Below.{below}
 use Rattle.chars.specs.Reach.{reach-rest, reach-within}
@@ -22,18 +22,18 @@ use Rattle.escapes.specs.declared.hex.Hex.the-variants.{Missing, Value}
 use Rattle.escapes.specs.declared.percent.Octets.the-variants.{All, Refused}
 use Rattle.escapes.specs.Parts.{OctetAt, TrailingAt}
 
-len-most : (a : ℕ) → a < 256 → lenOf a < 5
-unfolding lenOf
-len-most a h = ltb→lt (lenOf a) 5 (below 256 (λ a. ltb (lenOf a) 5) tt a h)
+len-most : (a : ℕ) → a < 256 → len-of a < 5
+unfolding len-of
+len-most a h = ltb→lt (len-of a) 5 (below 256 (λ a. ltb (len-of a) 5) tt a h)
 
 -- an octet a that leads n
 pub record Lead (text : List ℕ) (at a n : ℕ) : Type 0 where
   pub octet : OctetAt text at (Value a)
-  pub len : n ≡ lenOf a
+  pub len : n ≡ len-of a
   pub some : 1 ≤ n
   pub few : n ≤ 4
 
-pub lead : {text : List ℕ} {at a n : ℕ} → OctetAt text at (Value a) → n ≡ lenOf a → (n ≡ 0 → ⊥) → Lead text at a n
+pub lead : {text : List ℕ} {at a n : ℕ} → OctetAt text at (Value a) → n ≡ len-of a → (n ≡ 0 → ⊥) → Lead text at a n
 lead {a = a} o e z = let h = len-most a (o .found .0) in record { octet = o; len = e; some = omega arith; few = omega arith }
 
 -- it stands within the text, and so does the whole escape
@@ -56,7 +56,7 @@ module _ {text : List ℕ} {at : ℕ} (start : Mark) where
   unfolding percent _>>=_
   percent-missing o = rw (o .same start)
 
-  pub percent-leads-none : {a n : ℕ} → OctetAt text at (Value a) → n ≡ lenOf a → n ≡ 0 → percent start (chars (drop at text)) ≡ refused 22 start
+  pub percent-leads-none : {a n : ℕ} → OctetAt text at (Value a) → n ≡ len-of a → n ≡ 0 → percent start (chars (drop at text)) ≡ refused 22 start
   unfolding percent _>>=_ need
   percent-leads-none o e z = rw (o .same start, ← e, z)
 

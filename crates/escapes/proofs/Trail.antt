@@ -9,7 +9,7 @@ use lib.ListN.{drop, length, length-set, set, take}
 use lib.Seq.{take-length, take-suc-set}
 use Rattle.yaml_text.specs.declared.Mark.{Mark}
 use Rattle.yaml_text.specs.Refusal.{Read, _>>=_, got, need, refused}
-use Rattle.yaml_text.specs.Utf8.{chars, isTail}
+use Rattle.yaml_text.specs.Utf8.{chars, is-tail}
 use Rattle.yaml_lexeme.specs.Tag.{octet, trailing}
 use Rattle.chars.specs.Reach.{Reach, none, reach-rest, reach-then}
 use Rattle.escapes.specs.declared.hex.Hex.the-variants.{Missing, Value}
@@ -31,11 +31,11 @@ behind-none (got bs) = refl
 behind-none (refused n m) = refl
 
 module _ (start : Mark) (n : ℕ) (cs : List ℕ) where
-  octet-more : (b : ℕ) → octet start cs ≡ got b → isTail b ≡ true → trailing start (suc n) cs ≡ behind (b ∷ []) (trailing start n (drop 3 cs))
+  octet-more : (b : ℕ) → octet start cs ≡ got b → is-tail b ≡ true → trailing start (suc n) cs ≡ behind (b ∷ []) (trailing start n (drop 3 cs))
   unfolding trailing behind _>>=_ need
   octet-more b e f = rw (e, f)
 
-  octet-head : (b : ℕ) → octet start cs ≡ got b → isTail b ≡ false → trailing start (suc n) cs ≡ refused 23 start
+  octet-head : (b : ℕ) → octet start cs ≡ got b → is-tail b ≡ false → trailing start (suc n) cs ≡ refused 23 start
   unfolding trailing _>>=_ need
   octet-head b e f = rw (e, f)
 
@@ -61,7 +61,7 @@ module _ {text : List ℕ} {at : ℕ} {before out : List ℕ} {i : ℕ} (w : Tra
   left : length out - i ≡ suc (length out - (i + 1))
   left = omega arith
 
-  pub trailed-more : {b : ℕ} → OctetAt text (at + 3 * i) (Value b) → isTail b ≡ true → Trailed text at before (set out i b) (i + 1)
+  pub trailed-more : {b : ℕ} → OctetAt text (at + 3 * i) (Value b) → is-tail b ≡ true → Trailed text at before (set out i b) (i + 1)
   trailed-more {b} o f =
       let s : 3 * (i + 1) ≡ 3 * i + 3 = omega arith in
       let t : at + (3 * i + 3) ≡ at + 3 * i + 3 = omega arith in
@@ -81,7 +81,7 @@ module _ {text : List ℕ} {at : ℕ} {before out : List ℕ} {i : ℕ} (w : Tra
   unfolding behind _>>=_
   stops e = record { same = λ start. w .whole start ∙ rw (left, e start); found = tt }
 
-  pub trailed-head : {b : ℕ} → OctetAt text (at + 3 * i) (Value b) → isTail b ≡ false → TrailingAt text at (length before) out (Refused 23)
+  pub trailed-head : {b : ℕ} → OctetAt text (at + 3 * i) (Value b) → is-tail b ≡ false → TrailingAt text at (length before) out (Refused 23)
   trailed-head {b} o f = stops (λ start. octet-head start (length out - (i + 1)) (chars (drop (at + 3 * i) text)) b (o .same start) f)
 
   pub trailed-none : OctetAt text (at + 3 * i) Missing → TrailingAt text at (length before) out (Refused 21)

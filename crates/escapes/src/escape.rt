@@ -11,6 +11,29 @@ use crate::answer::Escape;
 use crate::answer::refuse;
 use crate::hex::Hex;
 use crate::hex::hex_number;
+use chars::code::BACKSLASH;
+use chars::code::CARRIAGE_RETURN;
+use chars::code::DOUBLE_QUOTE;
+use chars::code::LINE_FEED;
+use chars::code::LOWER_A;
+use chars::code::LOWER_B;
+use chars::code::LOWER_E;
+use chars::code::LOWER_F;
+use chars::code::LOWER_N;
+use chars::code::LOWER_R;
+use chars::code::LOWER_T;
+use chars::code::LOWER_U;
+use chars::code::LOWER_V;
+use chars::code::LOWER_X;
+use chars::code::SLASH;
+use chars::code::SPACE;
+use chars::code::TAB;
+use chars::code::UNDERSCORE;
+use chars::code::UPPER_L;
+use chars::code::UPPER_N;
+use chars::code::UPPER_P;
+use chars::code::UPPER_U;
+use chars::code::ZERO;
 use chars::mark::Place;
 use utf8::is_scalar;
 use utf8::look;
@@ -22,27 +45,27 @@ fn letter(c: u32) -> Named
     ensures { λ r. ⌜ (r ≡ named c) × Letter c r ⌝ }
 {
     match c {
-        9 => Named::Stands(9),
-        32 => Named::Stands(32),
-        34 => Named::Stands(34),
-        47 => Named::Stands(47),
-        48 => Named::Stands(0),
-        76 => Named::Stands(0x2028),
-        78 => Named::Stands(0x85),
-        80 => Named::Stands(0x2029),
-        85 => Named::Digits(8),
-        92 => Named::Stands(92),
-        95 => Named::Stands(0xA0),
-        97 => Named::Stands(7),
-        98 => Named::Stands(8),
-        101 => Named::Stands(27),
-        102 => Named::Stands(12),
-        110 => Named::Stands(10),
-        114 => Named::Stands(13),
-        116 => Named::Stands(9),
-        117 => Named::Digits(4),
-        118 => Named::Stands(11),
-        120 => Named::Digits(2),
+        TAB => Named::Stands(TAB),
+        SPACE => Named::Stands(SPACE),
+        DOUBLE_QUOTE => Named::Stands(DOUBLE_QUOTE),
+        SLASH => Named::Stands(SLASH),
+        ZERO => Named::Stands(0),
+        UPPER_L => Named::Stands(0x2028),
+        UPPER_N => Named::Stands(0x85),
+        UPPER_P => Named::Stands(0x2029),
+        UPPER_U => Named::Digits(8),
+        BACKSLASH => Named::Stands(BACKSLASH),
+        UNDERSCORE => Named::Stands(0xA0),
+        LOWER_A => Named::Stands(7),
+        LOWER_B => Named::Stands(8),
+        LOWER_E => Named::Stands(27),
+        LOWER_F => Named::Stands(12),
+        LOWER_N => Named::Stands(LINE_FEED),
+        LOWER_R => Named::Stands(CARRIAGE_RETURN),
+        LOWER_T => Named::Stands(TAB),
+        LOWER_U => Named::Digits(4),
+        LOWER_V => Named::Stands(11),
+        LOWER_X => Named::Digits(2),
         _ => Named::Unknown,
     }
 }

@@ -36,7 +36,7 @@ pub fn octet(text: &[u8], at: usize) -> Hex
     requires { ⌜ at ≤ length (now text) ⌝ }
     ensures { λ r. ⌜ OctetAt (now (text .entry)) at r ⌝ }
 {
-    if byte(text, at) == 37 {
+    if byte(text, at) == b'%' {
         return hex_number(text, at + 1, 2);
     }
     Hex::Missing

@@ -1,5 +1,5 @@
 // The escapes of double quotes and the percent escapes of tags: each is one character with its place, or a refusal.
 pub mod answer;
 pub mod escape;
-pub mod hex;
+mod hex;
 pub mod percent;

@@ -9,8 +9,8 @@ use lib.ListN.{drop, getD, length, take}
 use borrow.Author.Tests.{eqb-true}
 use Rattle.yaml_text.specs.declared.Mark.{Mark}
 use Rattle.yaml_text.specs.Char.{'#', carriage-return, line-feed, space, tab}
-use Rattle.yaml_text.specs.Class.{isBlank, isBreak, peek}
-use Rattle.yaml_text.specs.Mark.{Run, along, along-by, before-run, here, look, new-line, nothing-at, over, word}
+use Rattle.yaml_text.specs.Class.{is-blank, is-break, peek}
+use Rattle.yaml_text.specs.Mark.{Run, along, along-by, before-run, here, look, new-line, nothing-at, over, run-of}
 use Rattle.yaml_text.specs.Mark as definition
 use Rattle.yaml_text.specs.MarkLaws.{over-along, over-break, over-crlf}
 use Rattle.yaml_text.specs.Refusal.{Read, got, refused}
@@ -21,10 +21,11 @@ use Rattle.yaml_lexeme.specs.declared.Before.{Before}
 use Rattle.yaml_lexeme.specs.declared.Before.the-variants.{AfterText, InComment, Leading, Spaced, Tabbed}
 use Rattle.yaml_text.specs.PlaceLaws.{fits-left}
 use Rattle.yaml_lexeme.specs.Fits.{to-break-fit}
-use Rattle.yaml_lexeme.specs.Gap.{Gap, blanks, comment-after, gap-turn, isLeading, on-blank, on-hash, on-other, skip-gap, stop, to-break}
+use Rattle.yaml_lexeme.specs.Gap.{Gap, blanks, comment-after, gap-turn, is-leading, on-blank, on-hash, on-other, skip-gap, stop, to-break}
 use Rattle.yaml_lexeme.specs.Turns.{blanks-more, blanks-stop, gap-turned, to-break-more, to-break-stop}
 use Rattle.chars.specs.declared.mark.Place.{Place}
 use Rattle.chars.specs.Ascii.{blank-ascii, blank-unbroken, break-ascii, low}
+use Rattle.chars.specs.Blocks.{is-space}
 use Rattle.chars.specs.Bytes.{CharAt, ascii-at, eq-at, ne-char}
 use Rattle.chars.specs.Reach.{more, reach-within}
 use Rattle.chars.specs.View.{Moves, Stands, past, view}
@@ -32,35 +33,35 @@ use Rattle.gaps.specs.Breaks.{BreakAt, Breaks, none, one, two}
 use Rattle.gaps.specs.Gap.{Open, Other, gap-from}
 use Rattle.gaps.specs.Line.{is-low, line, line-more, line-row, line-stop, low-row, low-run}
 use Rattle.gaps.specs.Row.{Row, done, next, row-reach}
-use Rattle.gaps.specs.Spaces.{is-space, space-row, space-run}
+use Rattle.gaps.specs.Spaces.{space-row, space-run}
 use Rattle.gaps.specs.Walk.{Walks, moves-some, walks-along}
 use Rattle.gaps.specs.Span.{Spanning, spans-along}
 
 -- blanks
 
-pub blank-turn : {s : List ℕ} {at c : ℕ} (m : Mark) → CharAt s at c 1 → isBlank c ≡ true → blanks m (chars (drop at s)) ≡ blanks (along m) (chars (drop (at + 1) s))
+pub blank-turn : {s : List ℕ} {at c : ℕ} (m : Mark) → CharAt s at c 1 → is-blank c ≡ true → blanks m (chars (drop at s)) ≡ blanks (along m) (chars (drop (at + 1) s))
 blank-turn {s} {at} {c} m x e = rw (x .next) (blanks-more m c (chars (drop (at + 1) s)) e)
 
-pub blank-done : (m : Mark) (cs : List ℕ) → isBlank (peek cs 0) ≡ false → blanks m cs ≡ here m cs
+pub blank-done : (m : Mark) (cs : List ℕ) → is-blank (peek cs 0) ≡ false → blanks m cs ≡ here m cs
 unfolding blanks
 blank-done m [] e = refl
 blank-done m (c ∷ cs) e = blanks-stop m c cs e
 
 -- the line's end
 
-pub line-turn : {s : List ℕ} {at c n : ℕ} (m : Mark) → CharAt s at c n → isBreak c ≡ false
+pub line-turn : {s : List ℕ} {at c n : ℕ} (m : Mark) → CharAt s at c n → is-break c ≡ false
     → line m (chars (drop at s)) ≡ before-run (take 1 (chars (drop at s))) (line (along m) (chars (drop (at + n) s)))
 line-turn {s} {at} {c} {n} m x e = rw (x .next) (line-more m c (chars (drop (at + n) s)) e)
 
-pub line-done : {s : List ℕ} {at c n : ℕ} (m : Mark) → CharAt s at c n → isBreak c ≡ true → line m (chars (drop at s)) ≡ nothing-at (here m (chars (drop at s)))
+pub line-done : {s : List ℕ} {at c n : ℕ} (m : Mark) → CharAt s at c n → is-break c ≡ true → line m (chars (drop at s)) ≡ nothing-at (here m (chars (drop at s)))
 line-done {s} {at} {c} {n} m x e = rw (x .next) (line-stop m c (chars (drop (at + n) s)) e)
 
 pub end-done : (m : Mark) (cs : List ℕ) → cs ≡ [] → line m cs ≡ nothing-at (here m cs)
-unfolding word
+unfolding run-of
 end-done m cs e = rw e
 
 -- a character that is no break is passed over
-pub line-some : {s : List ℕ} {p q : Place} {c n : ℕ} → CharAt s (p .at) c n → isBreak c ≡ false → Moves s p q (to-break (p .mark) (chars (drop (p .at) s))) → p .at < q .at
+pub line-some : {s : List ℕ} {p q : Place} {c n : ℕ} → CharAt s (p .at) c n → is-break c ≡ false → Moves s p q (to-break (p .mark) (chars (drop (p .at) s))) → p .at < q .at
 line-some {s} {p} {q} {c} {n} x e w =
     let cs = chars (drop (p .at + n) s) in
     let f = fits-left (to-break-fit (along (p .mark)) cs) in
@@ -96,7 +97,7 @@ module _ (blank : Bool) (p : definition.Place) where
 
 -- gaps
 
-pub gap-blank : {s : List ℕ} {at c : ℕ} (flow a : Bool) (b : Before) (m : Mark) → CharAt s at c 1 → isBlank c ≡ true
+pub gap-blank : {s : List ℕ} {at c : ℕ} (flow a : Bool) (b : Before) (m : Mark) → CharAt s at c 1 → is-blank c ≡ true
     → skip-gap flow a b m (chars (drop at s)) ≡ skip-gap flow a (on-blank flow m c b) (along m) (chars (drop (at + 1) s))
 unfolding gap-turn
 gap-blank {s} {at} {c} flow a b m x e =
@@ -108,8 +109,8 @@ space-is : (c : ℕ) → is-space c ≡ true → c ≡ space
 unfolding is-space
 space-is c e = eqb-true c space e
 
-space-blank : isBlank space ≡ true
-unfolding isBlank
+space-blank : is-blank space ≡ true
+unfolding is-blank
 space-blank = refl
 
 -- spaces behind a blank change nothing but the place
@@ -144,7 +145,7 @@ module _ {text : List ℕ} (p : Place) {c r : ℕ} (x : CharAt text (p .at) c 1)
   pub blanks-some : (p .at < r) × (r ≤ length text)
   blanks-some = let w = reach-within (row-reach (space-row text (p .at + 1))) (x .within) in omega (arith, w, e)
 
-  pub gap-blanks : {start q : Place} {y : Read Gap} (flow a : Bool) (b : Before) → isBlank c ≡ true
+  pub gap-blanks : {start q : Place} {y : Read Gap} (flow a : Bool) (b : Before) → is-blank c ≡ true
       → Walks text start p y (gap-from flow a b (view text p)) → q ≡ past p (r - p .at) (along-by (r - p .at) (p .mark))
       → Walks text start q y (gap-from flow a (on-blank flow (p .mark) c b) (view text q))
   gap-blanks flow a b h w f =
@@ -159,9 +160,9 @@ module _ {text : List ℕ} (p : Place) {c r : ℕ} (x : CharAt text (p .at) c 1)
       (walks-along w (suc k) (suc k) (more x (rw j at (row-reach l)))
       (gap-blank flow a b (p .mark) x h ∙ rw (j, i, d) at (gap-spaces flow a b' (λ n. behind-blank flow (p .mark) n c b) l (along (p .mark)))))
 
-gap-break : (flow a : Bool) (b : Before) (m : Mark) {cs : List ℕ} {n : ℕ} → Breaks cs n → isBreak (peek cs 0) ≡ true
+gap-break : (flow a : Bool) (b : Before) (m : Mark) {cs : List ℕ} {n : ℕ} → Breaks cs n → is-break (peek cs 0) ≡ true
     → skip-gap flow a b m cs ≡ skip-gap flow (a || not flow) Leading (new-line n m) (drop n cs)
-unfolding gap-turn isBreak
+unfolding gap-turn is-break
 gap-break flow a b m (two {cs = cs}) h =
     gap-turned flow a b m carriage-return (line-feed ∷ cs)
     ∙ gap-turned flow (a || not flow) Leading (over m carriage-return line-feed) line-feed cs
@@ -175,27 +176,27 @@ gap-line {s} {p} flow a b x =
     gap-break flow a b (p .mark) (x .breaks) (x .is-break) ∙ ap (gap-from flow (a || not flow) Leading) (sym (x .moves .same))
 
 -- a comment runs to the break; behind it the gap goes on as behind a blank
-comment-turn : (flow a : Bool) (m : Mark) (c : ℕ) (cs : List ℕ) → isBreak c ≡ false → skip-gap flow a InComment m (c ∷ cs) ≡ skip-gap flow a InComment (along m) cs
+comment-turn : (flow a : Bool) (m : Mark) (c : ℕ) (cs : List ℕ) → is-break c ≡ false → skip-gap flow a InComment m (c ∷ cs) ≡ skip-gap flow a InComment (along m) cs
 unfolding gap-turn on-blank on-hash on-other
 comment-turn flow a m c cs e =
     gap-turned flow a InComment m c cs
-    ∙ by-test (isBlank c)
+    ∙ by-test (is-blank c)
     (λ f. rw (e, f, or-false a, over-along m c (peek cs 0) e))
     (λ f. by-test (eqb c '#')
     (λ g. rw (e, f, g, or-false a, over-along m c (peek cs 0) e))
     (λ g. rw (e, f, g, or-false a, over-along m c (peek cs 0) e)))
 
 comment-runs : (flow a : Bool) (m : Mark) (cs : List ℕ) → skip-gap flow a InComment m cs ≡ gap-from flow a Spaced (to-break m cs)
-unfolding skip-gap to-break isLeading gap-turn
+unfolding skip-gap to-break is-leading gap-turn
 comment-runs flow a m [] = refl
 comment-runs flow a m (c ∷ cs) =
-    by-test (isBreak c)
+    by-test (is-break c)
     (λ e. rw (to-break-stop m c cs e, gap-turned flow a InComment m c cs, gap-turned flow a Spaced m c cs, e))
     (λ e. comment-turn flow a m c cs e ∙ comment-runs flow a (along m) cs ∙ rw (to-break-more m c cs e))
 
 comment-start : (flow a : Bool) (b : Before) (m : Mark) (cs : List ℕ) → (b ≡ AfterText → ⊥)
     → skip-gap flow a b m ('#' ∷ cs) ≡ skip-gap flow a InComment m ('#' ∷ cs)
-unfolding skip-gap gap-turn isBreak isBlank on-hash
+unfolding skip-gap gap-turn is-break is-blank on-hash
 comment-start flow a Leading m cs h = refl
 comment-start flow a (Tabbed t) m cs h = refl
 comment-start flow a Spaced m cs h = refl
@@ -210,7 +211,7 @@ gap-comment {s} {p} {q} flow a b x h w =
     e ∙ comment-runs flow a (p .mark) cs ∙ ap (gap-from flow a Spaced) (sym (w .same))
 
 pub gap-wrong : {s : List ℕ} {at : ℕ} (flow a : Bool) (b : Before) (m : Mark) → CharAt s at '#' 1 → b ≡ AfterText → skip-gap flow a b m (chars (drop at s)) ≡ refused 44 m
-unfolding gap-turn isBreak isBlank on-hash
+unfolding gap-turn is-break is-blank on-hash
 gap-wrong {s} {at} flow a b m x e = rw (x .next, e) (gap-turned flow a AfterText m '#' (chars (drop (at + 1) s)))
 
 -- on the way no comment is open
@@ -226,17 +227,17 @@ open-blank flow m c AfterText h = tt
 open-blank flow m c InComment h = h
 
 -- where the gap ends, by the byte there
-pub other-at : (s : List ℕ) (at b : ℕ) → b ≡ getD s at 0 → isBlank b ≡ false → isBreak b ≡ false → (b ≡ '#' → ⊥) → Other (chars (drop at s))
+pub other-at : (s : List ℕ) (at b : ℕ) → b ≡ getD s at 0 → is-blank b ≡ false → is-break b ≡ false → (b ≡ '#' → ⊥) → Other (chars (drop at s))
 other-at s at b e f g h = record { no-break = ascii-at s at b e break-ascii ∙ g; no-blank = ascii-at s at b e blank-ascii ∙ f; no-hash = ne-char s at b e '#' tt h }
 
-pub gap-ends : (flow a : Bool) {b : Before} (x : Before) (l : Bool) (m : Mark) (cs : List ℕ) → b ≡ x → on-other x ≡ stop → isLeading x ≡ l → Other cs
-    → skip-gap flow a b m cs ≡ got (record { place = here m cs; allowed = a; leads = l })
+pub gap-ends : (flow a : Bool) {b : Before} (x : Before) (l : Bool) (m : Mark) (cs : List ℕ) → b ≡ x → on-other x ≡ stop → is-leading x ≡ l → Other cs
+    → skip-gap flow a b m cs ≡ got (record { place = here m cs; simple-key-allowed = a; leading-whitespace = l })
 unfolding skip-gap gap-turn
 gap-ends flow a x l m [] e f g o = rw (e, g)
 gap-ends flow a x l m (c ∷ cs) e f g o = rw e (gap-turned flow a x m c cs ∙ rw (o .no-break, o .no-blank, o .no-hash, f, g))
 
-pub gap-nothing : (flow a : Bool) (t m : Mark) (cs : List ℕ) → cs ≡ [] → skip-gap flow a (Tabbed t) m cs ≡ got (record { place = here m cs; allowed = a; leads = true })
-unfolding skip-gap isLeading
+pub gap-nothing : (flow a : Bool) (t m : Mark) (cs : List ℕ) → cs ≡ [] → skip-gap flow a (Tabbed t) m cs ≡ got (record { place = here m cs; simple-key-allowed = a; leading-whitespace = true })
+unfolding skip-gap is-leading
 gap-nothing flow a t m cs e = rw e
 
 pub gap-tabbed : (flow a : Bool) (t m : Mark) (c : ℕ) (cs ds : List ℕ) → cs ≡ c ∷ ds → Other cs → skip-gap flow a (Tabbed t) m cs ≡ refused 45 t

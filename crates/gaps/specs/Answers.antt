@@ -16,7 +16,7 @@ use Rattle.reading.specs.declared.Reached.the-variants as reached
 use Rattle.reading.specs.Reading.{Reaches, seen-place}
 use Rattle.gaps.specs.declared.Gapped.{Gapped}
 use Rattle.gaps.specs.declared.Gapped.the-variants.{Got, Refused}
-use Rattle.gaps.specs.Gap.{Onward, Skips, seen-gap}
+use Rattle.gaps.specs.Gap.{GapEnds, Skips, seen-gap}
 use Rattle.gaps.specs.Walk.{Walks}
 
 module _ {text : List ℕ} {p : Place} {r : Reached} {d : Read definition.Place} where
@@ -43,8 +43,8 @@ reached-refused w e = sym (rw e at (w .same))
 
 module _ {text : List ℕ} {p : Place} {r : Gapped} {d : Read gap.Gap} where
   -- a gap's end
-  pub skips-to : {a l : Bool} → r ≡ Got (record { place = p; allowed = a; leads = l }) → Stands text p
-      → d ≡ got (record { place = view text p; allowed = a; leads = l }) → Skips text p r d
+  pub skips-to : {a l : Bool} → r ≡ Got (record { place = p; «simple_key_allowed» = a; «leading_whitespace» = l }) → Stands text p
+      → d ≡ got (record { place = view text p; simple-key-allowed = a; leading-whitespace = l }) → Skips text p r d
   unfolding seen-gap
   skips-to f h e = rw f (record { same = sym e; onward = (h, omega arith) })
 
@@ -53,7 +53,7 @@ module _ {text : List ℕ} {p : Place} {r : Gapped} {d : Read gap.Gap} where
   unfolding seen-gap
   skips-refused f e = rw f (record { same = sym e; onward = tt })
 
-onward-from : (text : List ℕ) (start p : Place) (r : Gapped) → start .at ≤ p .at → Onward text p r → Onward text start r
+onward-from : (text : List ℕ) (start p : Place) (r : Gapped) → start .at ≤ p .at → GapEnds text p r → GapEnds text start r
 onward-from text start p (Got g) h k = (k .0, omega (arith, h, k .1))
 onward-from text start p (Refused f) h k = tt
 

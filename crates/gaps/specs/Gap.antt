@@ -5,7 +5,7 @@ use mathlib.Core.List.{List}
 use mathlib.Core.Path.{_≡_}
 use lib.Dec.{eqb}
 use Rattle.yaml_text.specs.Char.{'#'}
-use Rattle.yaml_text.specs.Class.{isBlank, isBreak, peek}
+use Rattle.yaml_text.specs.Class.{is-blank, is-break, peek}
 use Rattle.yaml_text.specs.Mark as place
 use Rattle.yaml_text.specs.Refusal.{Read, got, refused}
 use Rattle.yaml_lexeme.specs.declared.Before.{Before}
@@ -17,16 +17,16 @@ use Rattle.gaps.specs.declared.Gapped.{Gapped}
 use Rattle.gaps.specs.declared.Gapped.the-variants.{Got, Refused}
 
 unfoldable pub seen-gap : List ℕ → Gapped → Read definition.Gap
-seen-gap text (Got g) = got (record { place = view text (g .place); allowed = g .allowed; leads = g .leads })
+seen-gap text (Got g) = got (record { place = view text (g .place); simple-key-allowed = g .«simple_key_allowed»; leading-whitespace = g .«leading_whitespace» })
 seen-gap text (Refused f) = refused (f .number) (f .mark)
 
-abbrev pub Onward : List ℕ → Place → Gapped → Type 0
-Onward text p (Got g) = Stands text (g .place) × (p .at ≤ g .place .at)
-Onward text p (Refused f) = Unit {0}
+abbrev pub GapEnds : List ℕ → Place → Gapped → Type 0
+GapEnds text p (Got g) = Stands text (g .place) × (p .at ≤ g .place .at)
+GapEnds text p (Refused f) = Unit {0}
 
 pub record Skips (text : List ℕ) (p : Place) (r : Gapped) (d : Read definition.Gap) : Type 0 where
   pub same : seen-gap text r ≡ d
-  pub onward : Onward text p r
+  pub onward : GapEnds text p r
 
 -- the gap from a place on, behind b
 abbrev pub gap-from : Bool → Bool → Before → place.Place → Read definition.Gap
@@ -34,8 +34,8 @@ gap-from flow allowed b p = definition.skip-gap flow allowed b (p .mark) (p .res
 
 -- neither blank, break nor comment stands here
 pub record Other (cs : List ℕ) : Type 0 where
-  pub no-break : isBreak (peek cs 0) ≡ false
-  pub no-blank : isBlank (peek cs 0) ≡ false
+  pub no-break : is-break (peek cs 0) ≡ false
+  pub no-blank : is-blank (peek cs 0) ≡ false
   pub no-hash : eqb (peek cs 0) '#' ≡ false
 
 -- no comment is open here

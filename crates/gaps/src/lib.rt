@@ -7,14 +7,17 @@ ghost use Rattle.yaml_text.specs.Pick.{pick};
 ghost use Rattle.yaml_text.specs.Utf8.{chars};
 ghost use Rattle.yaml_lexeme.specs.declared.Before.the-variants.{AfterText, Leading, Tabbed};
 ghost use Rattle.yaml_lexeme.specs.Gap.{blanks, blanks-and-comment, on-blank, skip-gap, to-break};
-ghost use Rattle.chars.specs.Each.{Each, count-of, one-of};
+ghost use Rattle.chars.specs.Blocks.{is-space};
+ghost use Rattle.chars.specs.Each.{Each};
 ghost use Rattle.chars.specs.View.{Moves, Stands, view};
 ghost use Rattle.reading.specs.Reading.{Reaches};
 ghost use Rattle.gaps.specs.declared.Gapped.the-variants.{Got, Refused};
 ghost use Rattle.gaps.specs.Gap.{Open, Other, Skips, gap-from};
 ghost use Rattle.gaps.specs.Line.{is-low, line, low-run};
-ghost use Rattle.gaps.specs.Spaces.{is-space, space-run};
+ghost use Rattle.gaps.specs.Spaces.{space-run};
 ghost use Rattle.chars.specs.Parts.{Spans};
+use chars::block::ByteClass;
+use chars::block::all_of;
 use chars::class::is_blank;
 use chars::class::is_break;
 use chars::mark::Place;
@@ -80,20 +83,13 @@ pub fn run_to_break(text: &[u8], start: Place) -> Place
         let q = p.skip_n_non_blank(low_run(text, from));
         let at = q.at;
         let d = char_at(text, at);
-        match d {
-            Decoded::Ill => {
-                return q;
-            }
-            Decoded::End => {
-                return q;
-            }
-            Decoded::Char { code, len } => {
-                if is_break(code) {
-                    return q;
-                }
-                p = q.skip_non_blank(len);
-            }
+        let Decoded::Char { code, len } = d else {
+            return q;
+        };
+        if is_break(code) {
+            return q;
         }
+        p = q.skip_non_blank(len);
     }
 }
 
@@ -114,7 +110,7 @@ pub fn blanks_and_comment(text: &[u8], start: Place) -> Reached
     let blank = is_blank(byte(text, from) as u32);
     let p = skip_blanks(text, start);
     let at = p.at;
-    if byte(text, at) != 35 {
+    if byte(text, at) != b'#' {
         return Reached::To(p);
     }
     if blank {
@@ -127,8 +123,8 @@ pub fn blanks_and_comment(text: &[u8], start: Place) -> Reached
 // A gap's end: where it ends, whether a simple key is allowed there, whether only blanks stand before it on its line.
 pub struct Gap {
     pub place: Place,
-    pub allowed: bool,
-    pub leads: bool,
+    pub simple_key_allowed: bool,
+    pub leading_whitespace: bool,
 }
 
 pub enum Gapped {
@@ -145,7 +141,7 @@ fn on_blank(flow: bool, m: Mark, c: u8, b: Before) -> Before
             if flow {
                 return b;
             }
-            if c == 9 { Before::Tabbed(m) } else { b }
+            if c == b'\t' { Before::Tabbed(m) } else { b }
         }
         Before::Tabbed(_) => b,
         Before::Spaced => b,
@@ -155,12 +151,12 @@ fn on_blank(flow: bool, m: Mark, c: u8, b: Before) -> Before
 }
 
 fn ended(place: Place, allowed: bool, leads: bool) -> Gapped
-    ensures { λ r. ⌜ r ≡ Got (record { place = place; allowed = allowed; leads = leads }) ⌝ }
+    ensures { λ r. ⌜ r ≡ Got (record { place = place; «simple_key_allowed» = allowed; «leading_whitespace» = leads }) ⌝ }
 {
     Gapped::Got(Gap {
         place: place,
-        allowed: allowed,
-        leads: leads,
+        simple_key_allowed: allowed,
+        leading_whitespace: leads,
     })
 }
 
@@ -211,27 +207,6 @@ fn before_of(leads: bool) -> Before
     }
 }
 
-// 1 for a space, else 0.
-fn one_space(b: u8) -> u8
-    ensures { λ r. ⌜ r ≡ one-of is-space b ⌝ }
-{
-    if b == 32 { 1 } else { 0 }
-}
-
-// How many of at most 16 bytes are spaces. The loop has no exit, so that it is vectorised.
-fn spaces_in(s: &[u8]) -> u8
-    requires { ⌜ length (now s) ≤ 16 ⌝ }
-    ensures { λ r. ⌜ r ≡ count-of is-space (now (s .entry)) ⌝ }
-{
-    let mut n: u8 = 0;
-    let mut i = 0;
-    while i < s.len() {
-        n += one_space(s[i]);
-        i += 1;
-    }
-    n
-}
-
 // Over blocks of 16 spaces.
 fn past_space_blocks(text: &[u8], start: usize) -> usize
     requires { ⌜ start ≤ length (now text) ⌝ }
@@ -239,10 +214,11 @@ fn past_space_blocks(text: &[u8], start: usize) -> usize
 {
     let mut at = start;
     while at + 16 <= text.len() {
-        if spaces_in(&text[at..at + 16]) != 16 {
+        if all_of(&text[at..at + 16], ByteClass::Space) {
+            at += 16;
+        } else {
             return at;
         }
-        at += 16;
     }
     at
 }
@@ -265,7 +241,7 @@ fn past_spaces(text: &[u8], start: usize) -> usize
 {
     let mut at = start;
     while at < text.len() {
-        if text[at] != 32 {
+        if text[at] != b' ' {
             return at;
         }
         at = past_some_spaces(text, at + 1);
@@ -297,7 +273,7 @@ pub fn skip_gap(text: &[u8], start: Place, flow: bool, allowed: bool, leads: boo
             ok = ok | !flow;
             continue;
         }
-        if c != 35 {
+        if c != b'#' {
             return gap_end(text, p, ok, b);
         }
         if let Before::AfterText = b {

@@ -3,16 +3,17 @@ use Prim.Native.Nat.{_*_, _≤_, ℕ}
 use mathlib.Core.List.{List, [], _∷_, append-nil}
 use mathlib.Core.Path.{_≡_, ap}
 use Rattle.yaml_text.specs.declared.Refusal.{Refusal}
+use Rattle.yaml_lexeme.specs.Record.{record-words}
 use Rattle.yaml_scan.specs.Scan.{Answer as Said, answer}
-use Rattle.lines.specs.Lines.{lines-text, numbers-line}
-use Rattle.lines.specs.Listing.{listing, listing-of, mark-numbers, sheet, token-lines, verdict-lines}
-use Rattle.lines.specs.Rooms.{tokens-left}
-use Rattle.lines.specs.Written.{Written, written-then}
+use Rattle.printing.specs.Lines.{lines-text, numbers-line}
+use Rattle.printing.specs.Listing.{listing, listing-of, mark-numbers, sheet, token-lines, verdict-lines}
+use Rattle.printing.specs.Rooms.{tokens-left}
+use Rattle.printing.specs.Written.{Written, written-then}
 use Rattle.scanner.specs.Promise.{answer-of, verdict-of}
 use Rattle.scanner.specs.declared.Answer.the-variants.{Accepted, Refused}
 use Rattle.scanner.specs.declared.Answer.{Answer}
 
-pub accepted-fit : (a : Answer) (t d w : ℕ) → a ≡ Accepted t d → tokens-left (verdict-of a) * 12 ≤ w → t * 12 ≤ w
+pub accepted-fit : (a : Answer) (t d w : ℕ) → a ≡ Accepted t d → tokens-left (verdict-of a) * record-words ≤ w → t * record-words ≤ w
 accepted-fit a t d w e h = rw e at h
 
 pub accepted-lines : (a : Answer) (words : List ℕ) {t d k r : ℕ} {l m o : List ℕ} → a ≡ Accepted t d
@@ -26,6 +27,6 @@ pub refused-lines : (a : Answer) (words : List ℕ) {f : Refusal} {t d r : ℕ} 
 unfolding verdict-lines lines-text
 refused-lines a words e w = rw (e, append-nil) w
 
-pub answered-lines : (a : Answer) (text words bytes : List ℕ) {r : ℕ} {l o : List ℕ} → answer-of a words bytes ≡ answer sheet text 12324 768
+pub answered-lines : (a : Answer) (text words bytes : List ℕ) {r : ℕ} {l o : List ℕ} → answer-of a words bytes ≡ answer sheet text (1_027 * record-words) 768
     → Written l 0 (lines-text (verdict-lines (verdict-of a) words)) o r → Written l 0 (listing-of text) o r
 answered-lines a text words bytes e w = rw (ap (λ (s : Said). lines-text (listing s)) e) at w

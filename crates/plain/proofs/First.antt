@@ -10,11 +10,11 @@ use lib.Seq.{length-take-le, sets}
 use borrow.Author.Tests.{eqb-false}
 use Rattle.yaml_text.specs.declared.Decoded.the-variants.{Char, Ill}
 use Rattle.yaml_text.specs.declared.Mark.{Mark}
-use Rattle.yaml_text.specs.Class.{isZ, peek}
+use Rattle.yaml_text.specs.Class.{is-z, peek}
 use Rattle.yaml_text.specs.Mark.{along}
 use Rattle.yaml_text.specs.Refusal.{got}
 use Rattle.yaml_text.specs.Test.{by-pick}
-use Rattle.yaml_text.specs.Utf8.{byLen, charIf, chars, encode, four, isScalar, isTail, lenOf, three, two}
+use Rattle.yaml_text.specs.Utf8.{by-len, char-if, chars, encode, four, is-scalar, is-tail, len-of, three, two}
 use Rattle.yaml_text.specs.Utf8Laws.{first-at}
 use Rattle.yaml_lexeme.specs.declared.Style.the-variants.{Plain}
 use Rattle.yaml_lexeme.specs.Plain.{plain-text, scan-plain-scalar}
@@ -32,45 +32,45 @@ use Rattle.reading.specs.Scalars.{scalar-at, scalar-got}
 no-char : {A : Type 0} {c n : ℕ} → Ill ≡ Char c n → A
 no-char e = let z : _≡_ {A = ℕ} 0 1 = cc in absurd (omega arith)
 
-len-if : (p : Bool) (v m c n : ℕ) → charIf p v m ≡ Char c n → n ≡ m
+len-if : (p : Bool) (v m c n : ℕ) → char-if p v m ≡ Char c n → n ≡ m
 len-if true v m c n e = cc
 len-if false v m c n e = no-char e
 
 two-len : (a b v n : ℕ) → two a b ≡ Char v n → n ≡ 2
 unfolding two
-two-len a b v n e = let w = a % 32 * 64 + b % 64 in len-if (isTail b && isScalar 0x80 w) w 2 v n e
+two-len a b v n e = let w = a % 32 * 64 + b % 64 in len-if (is-tail b && is-scalar 0x80 w) w 2 v n e
 
 three-len : (a b c v n : ℕ) → three a b c ≡ Char v n → n ≡ 3
 unfolding three
-three-len a b c v n e = let w = a % 16 * 4096 + b % 64 * 64 + c % 64 in len-if (isTail b && (isTail c && isScalar 0x800 w)) w 3 v n e
+three-len a b c v n e = let w = a % 16 * 4096 + b % 64 * 64 + c % 64 in len-if (is-tail b && (is-tail c && is-scalar 0x800 w)) w 3 v n e
 
 four-len : (a b c d v n : ℕ) → four a b c d ≡ Char v n → n ≡ 4
 unfolding four
 four-len a b c d v n e =
     let w = a % 8 * 262144 + b % 64 * 4096 + c % 64 * 64 + d % 64 in
-    len-if (isTail b && (isTail c && (isTail d && isScalar 0x10000 w))) w 4 v n e
+    len-if (is-tail b && (is-tail c && (is-tail d && is-scalar 0x10000 w))) w 4 v n e
 
 -- a character is as long as its first byte tells
-len-by : (k a b c d v n : ℕ) → k ≤ 4 → byLen k a b c d ≡ Char v n → n ≡ k
-unfolding byLen
+len-by : (k a b c d v n : ℕ) → k ≤ 4 → by-len k a b c d ≡ Char v n → n ≡ k
+unfolding by-len
 len-by zero a b c d v n h e = let z : _≡_ {A = ℕ} 0 1 = cc in absurd (omega arith)
 len-by (suc zero) a b c d v n h e = cc
 len-by (suc (suc zero)) a b c d v n h e = two-len a b v n e
 len-by (suc (suc (suc zero))) a b c d v n h e = three-len a b c v n e
 len-by (suc (suc (suc (suc k)))) a b c d v n h e = let l = four-len a b c d v n e in omega arith
 
-len-few : (a : ℕ) → lenOf a ≤ 4
-unfolding lenOf
+len-few : (a : ℕ) → len-of a ≤ 4
+unfolding len-of
 len-few a =
     let P : ℕ → Type 0 = λ n. n ≤ 4 in
     by-pick P (ltb a 128) _ _ (omega arith) (by-pick P (ltb a 192) _ _ (omega arith) (by-pick P (ltb a 224) _ _ (omega arith)
     (by-pick P (ltb a 240) _ _ (omega arith) (by-pick P (ltb a 248) _ _ (omega arith) (omega arith)))))
 
-char-lead : {s : List ℕ} {at c n : ℕ} → CharAt s at c n → n ≡ lenOf (getD s at 0)
+char-lead : {s : List ℕ} {at c n : ℕ} → CharAt s at c n → n ≡ len-of (getD s at 0)
 char-lead {s} {at} {c} {n} a = len-by _ _ _ _ _ c n (len-few _) (sym (first-at s at (omega (arith, a .within, a .some))) ∙ a .is)
 
-pub first-char : (s : List ℕ) → isZ (peek (chars s) 0) ≡ false → (b n : ℕ) → b ≡ getD s 0 0 → n ≡ lenOf b → CharAt s 0 (peek (chars s) 0) n
-unfolding isZ
+pub first-char : (s : List ℕ) → is-z (peek (chars s) 0) ≡ false → (b n : ℕ) → b ≡ getD s 0 0 → n ≡ len-of b → CharAt s 0 (peek (chars s) 0) n
+unfolding is-z
 first-char s h b n e f =
     let z = eqb-false (peek (chars s) 0) 0 h in
     let a = peek-char s 0 (peek (chars s) 0) refl (omega arith) in

@@ -1,4 +1,4 @@
 pub mod Ends
 pub mod First
 pub mod On
-pub mod Turns
+pub mod TextTurns

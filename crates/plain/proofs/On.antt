@@ -1,5 +1,5 @@
 -- The loop over a plain scalar's text.
-use Prim.Native.Nat.{_+_, _-_, _<_, _≤_, suc, zero, ℕ}
+use Prim.Native.Nat.{_+_, _-_, _<_, _≤_, ℕ}
 use mathlib.Core.Bool.{Bool, false, true}
 use mathlib.Core.List.{List, []}
 use mathlib.Core.Path.{_∙_, _≡_, ap, refl, sym}
@@ -8,20 +8,21 @@ use lib.Dec.{ltb}
 use lib.ListN.{drop, getD, length}
 use borrow.Author.Tests.{le-ltb, lt-ltb}
 use Rattle.yaml_text.specs.declared.Mark.{Mark}
-use Rattle.yaml_text.specs.Class.{isBlank, none-left}
+use Rattle.yaml_text.specs.Class.{is-blank, none-left}
 use Rattle.yaml_text.specs.Mark.{along, along-by, here}
 use Rattle.yaml_text.specs.Utf8.{chars, first}
 use Rattle.yaml_lexeme.specs.Plain.{plain-text}
-use Rattle.chars.specs.Each.{Each}
+use Rattle.chars.specs.Blocks.{ordinary}
+use Rattle.chars.specs.Each.{Each, each-carry}
 use Rattle.chars.specs.declared.mark.Place.{Place}
 use Rattle.chars.specs.Ascii.{blank-ascii}
 use Rattle.chars.specs.Bytes.{ascii-at, ascii-char}
 use Rattle.chars.specs.Parts.{Spans, part, part-more, part-none}
 use Rattle.chars.specs.Places.{stands-along}
 use Rattle.chars.specs.View.{Stands}
-use Rattle.plain.specs.Text.{ordinary, text-length}
+use Rattle.plain.specs.Text.{text-length}
 use Rattle.plain.proofs.Ends.{Goes, blank-unmarked, goes-by, ordinary-ascii, ordinary-unblank, ordinary-unmarked, stops-by, unmarked}
-use Rattle.plain.proofs.Turns.{Coded, coded, resume, resume-here, turn-blank, turn-text}
+use Rattle.plain.proofs.TextTurns.{Coded, coded, resume, resume-here, turn-blank, turn-text}
 
 -- the mark at an offset behind p on its line, `extra` bytes on the way being no characters
 abbrev mark-at : Place → ℕ → ℕ → Mark
@@ -61,10 +62,10 @@ on-start s flow p h =
 module _ {s : List ℕ} {flow : Bool} {p : Place} {at end extra : ℕ} (o : On s flow p at end extra) where
   -- a turn over a character, by the byte b there
   module _ (b : ℕ) (e : b ≡ getD s at 0) where
-    pub on-text : isBlank b ≡ false → {n : ℕ} (g : Goes flow (ltb end at) s at n) (x : ℕ) → extra + n ≡ x + 1 → On s flow p (at + n) (at + n) x
+    pub on-text : is-blank b ≡ false → {n : ℕ} (g : Goes flow (ltb end at) s at n) (x : ℕ) → extra + n ≡ x + 1 → On s flow p (at + n) (at + n) x
     on-text h {n} g x k =
         let f : p .at + extra ≤ at = omega (arith, o) in
-        let u : isBlank (g .char) ≡ false = rw (g .is .next) at (ascii-at s at b e blank-ascii) ∙ h in
+        let u : is-blank (g .char) ≡ false = rw (g .is .next) at (ascii-at s at b e blank-ascii) ∙ h in
         record {
           within = g .is .within;
           behind = omega arith;
@@ -80,7 +81,7 @@ module _ {s : List ℕ} {flow : Bool} {p : Place} {at end extra : ℕ} (o : On s
         (record { char = b; is = ascii-char s at b e ordinary-ascii h; on = unmarked flow (ltb end at) b _ (ordinary-unmarked b h) })
         extra refl
 
-    pub on-blank : isBlank b ≡ true → On s flow p (at + 1) end extra
+    pub on-blank : is-blank b ≡ true → On s flow p (at + 1) end extra
     on-blank h =
         let a = ascii-char s at b e blank-ascii h in
         let f : p .at + extra ≤ at = omega (arith, o) in
@@ -94,7 +95,7 @@ module _ {s : List ℕ} {flow : Bool} {p : Place} {at end extra : ℕ} (o : On s
               (turn-blank flow (ltb end at) (mark-at p at extra) b _ (part s (p .at) at) (ended s p end extra) (unmarked flow (ltb end at) b _ (blank-unmarked b h)) h);
         }
 
-    pub on-other : isBlank b ≡ false → (n : ℕ) → n ≡ text-length flow (ltb end at) s at → (n ≡ 0 → ⊥) → On s flow p (at + n) (at + n) (extra + (n - 1))
+    pub on-other : is-blank b ≡ false → (n : ℕ) → n ≡ text-length flow (ltb end at) s at → (n ≡ 0 → ⊥) → On s flow p (at + n) (at + n) (extra + (n - 1))
     on-other h n f z = on-text h (goes-by flow (ltb end at) s at (first (drop at s)) refl n f z) (extra + (n - 1)) (omega arith)
 
   pub on-done : Stands s p → (n : ℕ) → n ≡ text-length flow (ltb end at) s at → n ≡ 0 → (r : Place) → r ≡ record { at = end; mark = mark-at p end extra }
@@ -115,14 +116,5 @@ module _ {s : List ℕ} {flow : Bool} {p : Place} {at end extra : ℕ} (o : On s
       })
 
 -- a run of ordinary bytes is turns over one each
-on-turns : {s : List ℕ} {flow : Bool} {p : Place} {at extra : ℕ} → On s flow p at at extra → (n : ℕ)
-    → ((i : ℕ) → at ≤ i → i < at + n → ordinary (getD s i 0) ≡ true) → On s flow p (at + n) (at + n) extra
-on-turns {s} {flow} {p} {at} {extra} o zero h = let k : at ≡ at + 0 = omega arith in rw k at o
-on-turns {s} {flow} {p} {at} {extra} o (suc n) h =
-    let k : at + n + 1 ≡ at + suc n = omega arith in
-    rw k at (on-ordinary (on-turns o n (λ i a b. h i a (omega arith))) (getD s (at + n) 0) refl (h (at + n) (omega arith) (omega arith)))
-
 pub on-run : {s : List ℕ} {flow : Bool} {p : Place} {at extra r : ℕ} → On s flow p at at extra → Each ordinary s at r → On s flow p r r extra
-on-run {s} {flow} {p} {at} {extra} {r} o w =
-    let k : at + (r - at) ≡ r = omega (arith, w .onward) in
-    rw k at (on-turns o (r - at) (λ i a b. w .each i a (omega arith)))
+on-run {s} {flow} {p} {extra = extra} o w = each-carry ordinary s (λ i. On s flow p i i extra) (λ i h e x. on-ordinary x (getD s i 0) refl e) w o

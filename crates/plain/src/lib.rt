@@ -3,16 +3,20 @@ ghost use mathlib.Core.Bool.{false};
 ghost use mathlib.Core.Path.{_≡_};
 ghost use Prim.Native.Nat.{_+_, _-_, _<_, _^_, _≤_};
 ghost use lib.ListN.{drop, getD, length};
-ghost use Rattle.yaml_text.specs.Class.{isZ, peek};
+ghost use Rattle.yaml_text.specs.Class.{is-z, peek};
 ghost use Rattle.yaml_text.specs.Mark.{along-by};
 ghost use Rattle.yaml_text.specs.Refusal.{got};
 ghost use Rattle.yaml_text.specs.Utf8.{chars, first};
 ghost use Rattle.yaml_lexeme.specs.Plain.{plain-stops, plain-text, scan-plain-scalar};
-ghost use Rattle.chars.specs.Each.{Each, count-of, one-of};
+ghost use Rattle.chars.specs.Blocks.{ordinary};
+ghost use Rattle.chars.specs.Each.{Each};
 ghost use Rattle.chars.specs.Parts.{Spans};
 ghost use Rattle.chars.specs.View.{Small, Stands, view};
 ghost use Rattle.reading.specs.Reading.{Given, Lexes, first-at};
-ghost use Rattle.plain.specs.Text.{ends-at-colon, ordinary, text-length, usual};
+ghost use Rattle.plain.specs.Text.{ends-at-colon, text-length, usual};
+use chars::block::ByteClass;
+use chars::block::all_of;
+use chars::block::is_ordinary;
 use chars::class::is_blank;
 use chars::class::is_blank_or_breakz;
 use chars::class::is_bom;
@@ -50,10 +54,10 @@ fn stops(text: &[u8], at: usize, flow: bool, blank: bool, b: u8) -> bool
     if is_flow(b as u32) {
         return flow;
     }
-    if b == 58 {
+    if b == b':' {
         return ends_at_colon(text, at + 1, flow);
     }
-    if b == 35 {
+    if b == b'#' {
         return blank;
     }
     is_breakz(b as u32)
@@ -110,34 +114,6 @@ fn text_length(text: &[u8], at: usize, flow: bool, blank: bool, b: u8) -> usize
     len
 }
 
-// Most characters of a text by far: neither a blank nor one at which it could end.
-fn is_ordinary(b: u8) -> bool
-    ensures { λ r. ⌜ r ≡ ordinary b ⌝ }
-{
-    (45 <= b) & (b <= 57) | (59 <= b) & (b <= 90) | (94 <= b) & (b <= 122)
-}
-
-// 1 for an ordinary byte, else 0.
-fn one_ordinary(b: u8) -> u8
-    ensures { λ r. ⌜ r ≡ one-of ordinary b ⌝ }
-{
-    if is_ordinary(b) { 1 } else { 0 }
-}
-
-// How many of at most 16 bytes are ordinary. The loop has no exit, so that it is vectorised.
-fn ordinaries(s: &[u8]) -> u8
-    requires { ⌜ length (now s) ≤ 16 ⌝ }
-    ensures { λ r. ⌜ r ≡ count-of ordinary (now (s .entry)) ⌝ }
-{
-    let mut n: u8 = 0;
-    let mut i = 0;
-    while i < s.len() {
-        n += one_ordinary(s[i]);
-        i += 1;
-    }
-    n
-}
-
 // Past the blocks of 16 ordinary bytes here.
 fn past_blocks(text: &[u8], start: usize) -> usize
     requires { ⌜ start ≤ length (now text) ⌝ }
@@ -145,10 +121,11 @@ fn past_blocks(text: &[u8], start: usize) -> usize
 {
     let mut at = start;
     while at + 16 <= text.len() {
-        if ordinaries(&text[at..at + 16]) != 16 {
+        if all_of(&text[at..at + 16], ByteClass::Ordinary) {
+            at += 16;
+        } else {
             return at;
         }
-        at += 16;
     }
     at
 }
@@ -158,10 +135,8 @@ fn behind(start: Place, end: usize, extra: usize) -> Place
     requires { ⌜ Small start × (start .at + extra ≤ end) × (end ≤ start .at + 2 ^ 20) ⌝ }
     ensures { λ r. ⌜ r ≡ record { at = end; mark = along-by (end - start .at - extra) (start .mark) } ⌝ }
 {
-    let n = end - start.at - extra;
-    let p = start.skip_n_non_blank(n as u32);
-    let m = p.mark;
-    Place { at: end, mark: m }
+    let n = end - start.at;
+    start.skip_chars(n, (n - extra) as u32)
 }
 
 // The place behind the last character of the text that goes on at `start`, which no blank stands before.
@@ -194,10 +169,10 @@ fn text_end(text: &[u8], start: Place, flow: bool) -> Place
 
 // From its first character, whatever that is.
 pub fn scan_plain_scalar(text: &[u8], start: Mark, flow: bool, used: u32, out: &mut [u8]) -> Reading
-    requires { ⌜ Given (now text) start used × (isZ (peek (chars (now text)) 0) ≡ false) ⌝ }
+    requires { ⌜ Given (now text) start used × (is-z (peek (chars (now text)) 0) ≡ false) ⌝ }
     ensures { λ r. ⌜ Lexes (now (text .entry)) (now (out .entry)) (now (out .exit)) used r (got (scan-plain-scalar flow (view (now (text .entry)) (first-at start)))) ⌝ }
 {
-    let first = Place { at: 0, mark: start };
+    let first = Place::first_at(start);
     let len = lead_len(byte(text, 0)) as usize;
     let e = text_end(text, first.skip_non_blank(len), flow);
     let n = e.at;

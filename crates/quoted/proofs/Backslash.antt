@@ -4,18 +4,18 @@ use mathlib.Core.Bool.{Bool, _&&_, false, not, true}
 use mathlib.Core.List.{List, [], _∷_, append-nil}
 use mathlib.Core.Path.{_∙_, _≡_, ap, refl, sym}
 use native.Mathlib.Omega.{arith}
-use lib.Dec.{eqb, ltb}
-use lib.ListN.{drop, length}
+use lib.Dec.{eqb}
+use lib.ListN.{drop, length, replicate}
 use lib.Seq.{sets}
 use Rattle.yaml_text.specs.declared.Refusal.{Refusal}
 use Rattle.yaml_text.specs.Char.{backslash}
-use Rattle.yaml_text.specs.Class.{isBlank, isBreak, peek}
+use Rattle.yaml_text.specs.Class.{is-blank, is-break, peek}
 use Rattle.yaml_text.specs.Mark.{along, along-by, break-length, new-line}
 use Rattle.yaml_text.specs.Refusal.{Read, before-read, got, refused}
-use Rattle.yaml_text.specs.Test.{by-pick}
-use Rattle.yaml_text.specs.Utf8.{bytesOf, chars, encode}
+use Rattle.yaml_text.specs.Utf8.{char-bytes, chars, encode}
 use Rattle.yaml_lexeme.specs.Escape.{Escaped, escape}
 use Rattle.yaml_lexeme.specs.Quoted.{chars-of, escape-turn, joined, quoted-run}
+use Rattle.yaml_lexeme.specs.Sizes.{width-some}
 use Rattle.chars.specs.declared.mark.Place.{Place}
 use Rattle.chars.specs.Bytes.{CharAt}
 use Rattle.chars.specs.Lines.{break-reach}
@@ -33,33 +33,27 @@ use Rattle.quoted.specs.declared.turns.Turned.{Turned}
 use Rattle.quoted.specs.declared.turns.Turned.the-variants.{Ends, Goes}
 use Rattle.quoted.specs.Modes.{mode-of}
 use Rattle.quoted.specs.Texts.{quote-by}
-use Rattle.quoted.specs.Written.{Sound, Turns, number-of, quote-of, rest-of, text-turn}
+use Rattle.quoted.specs.Advance.{Advances, Sound, number-of, quote-of, rest-of, text-turn}
 use Rattle.quoted.proofs.Runs.{before-none, behind, pass-break}
 use Rattle.quoted.proofs.Texts.{pass-along, pass-reach, run-escape, run-joined}
 use Rattle.quoted.proofs.Told.{escape-at-start, escape-passes}
 use Rattle.quoted.proofs.Turning.{goes-on, refused-at}
 
 -- a break, told by its length
-breaks-yes : {cs : List ℕ} {n : ℕ} → Breaks cs n → 0 < n → isBreak (peek cs 0) ≡ true
-unfolding isBreak
+breaks-yes : {cs : List ℕ} {n : ℕ} → Breaks cs n → 0 < n → is-break (peek cs 0) ≡ true
+unfolding is-break
 breaks-yes two h = refl
 breaks-yes (one e f) h = e
 breaks-yes (none e) h = absurd (omega arith)
 
-breaks-no : {cs : List ℕ} {n : ℕ} → Breaks cs n → n ≤ 0 → isBreak (peek cs 0) ≡ false
+breaks-no : {cs : List ℕ} {n : ℕ} → Breaks cs n → n ≤ 0 → is-break (peek cs 0) ≡ false
 breaks-no two h = absurd (omega arith)
 breaks-no (one e f) h = absurd (omega arith)
 breaks-no (none e) h = e
 
-backslash-unblank : (isBlank backslash ≡ false) × (isBreak backslash ≡ false)
-unfolding isBlank isBreak
+backslash-unblank : (is-blank backslash ≡ false) × (is-break backslash ≡ false)
+unfolding is-blank is-break
 backslash-unblank = (refl, refl)
-
-pub few-bytes : (c : ℕ) → length (bytesOf c) ≤ 4
-unfolding bytesOf
-few-bytes c =
-    let P : List ℕ → Type 0 = λ l. length l ≤ 4 in
-    by-pick P (ltb c 0x80) _ _ (omega arith) (by-pick P (ltb c 0x800) _ _ (omega arith) (by-pick P (ltb c 0x10000) _ _ (omega arith) (omega arith)))
 
 not-quote : (single : Bool) → single ≡ false → eqb backslash (quote-by single) ≡ false
 not-quote single u = rw u
@@ -95,7 +89,7 @@ module _ (q : Quote) {text : List ℕ} {p : Place} {n : ℕ} (s : Sound text (te
   -- an escaped break of k characters
   pub joined-turns : (before : List ℕ) {k : ℕ} {r : Turned} → k ≡ break-length (after text p) → 0 < k
       → r ≡ Goes (record { place = past (past p 1 (along (p .mark))) k (new-line k (along (p .mark))); mode = mode.Escaped; count = n })
-      → Turns text q before before (text-turn p n) r
+      → Advances text q before before (text-turn p n) r
   unfolding mode-of encode
   joined-turns before {k} e h f =
       let m = p .mark in
@@ -144,21 +138,21 @@ module _ (q : Quote) {text : List ℕ} {p : Place} {n : ℕ} (s : Sound text (te
       one-on = let y = escape-passes (q .start) (after text p) (x .esc) (x .is) in omega (arith, x .at-is)
 
     pub one-turns : {before out : List ℕ} {c k : ℕ} {next : Place} {r : Turned} → Escapes text p (answer.One c next) (escape (q .start) (after text p))
-        → out ≡ sets before n (bytesOf c) → k ≡ n + length (bytesOf c) → r ≡ Goes (text-turn next k) → Turns text q before out (text-turn p n) r
+        → out ≡ sets before n (char-bytes c) → k ≡ n + length (char-bytes c) → r ≡ Goes (text-turn next k) → Advances text q before out (text-turn p n) r
     unfolding mode-of encode
     one-turns {c = c} {k} {next} w f g h =
         let x = taken p (escape (q .start) (after text p)) c next (w .same) in
-        let o = few-bytes c in
+        let o = width-some c .1 in
         let i = one-on x in
-        goes-on (c ∷ []) (text-turn next k) (one-is x) (f ∙ rw (append-nil (bytesOf c))) (g ∙ rw (append-nil (bytesOf c)))
+        goes-on (c ∷ []) (text-turn next k) (one-is x) (f ∙ rw (append-nil (char-bytes c))) (g ∙ rw (append-nil (char-bytes c)))
         (record { stands = w .ahead .1; short = s .short; kept = tt; few = omega (arith, s .few) })
         (omega arith) h
 
     pub refused-turns : {before out : List ℕ} {k : ℕ} {x : Escape} {r : Turned} (f : Refusal) → x ≡ answer.Refused f
-        → Escapes text p x (escape (q .start) (after text p)) → k ≡ number-of x → r ≡ Ends (Refused (record { number = k; mark = q .start }))
-        → Turns text q before out (text-turn p n) r
+        → Escapes text p x (escape (q .start) (after text p)) → k ≡ number-of x
+        → (r ≡ Ends (Refused (record { number = k; mark = q .start }))) × (out ≡ replicate (length before) 0) → Advances text q before out (text-turn p n) r
     unfolding number-of
     refused-turns {k = k} f e w g h =
         let d = not-taken p (escape (q .start) (after text p)) f (sym e ∙ w .same) in
         let i : k ≡ f .number = g ∙ rw e in
-        refused-at k (q .start) (escape-is d ∙ rw (i, escape-at-start (q .start) (after text p) (f .number) (f .mark) d)) h
+        refused-at k (q .start) (escape-is d ∙ rw (i, escape-at-start (q .start) (after text p) (f .number) (f .mark) d)) (h .0) (h .1)

@@ -5,9 +5,9 @@ use mathlib.Core.List.{List, []}
 use mathlib.Core.Path.{_∙_, _≡_, refl, sym}
 use native.Mathlib.Omega.{arith}
 use lib.Dec.{eqb}
-use lib.ListN.{drop, getD}
+use lib.ListN.{drop, getD, length, replicate}
 use borrow.Author.Tests.{eqb-true, ne-eqb, not-true}
-use Rattle.yaml_text.specs.Class.{isBlank, isBreak}
+use Rattle.yaml_text.specs.Class.{is-blank, is-break}
 use Rattle.yaml_text.specs.Mark.{break-length}
 use Rattle.yaml_text.specs.Test.{both-true}
 use Rattle.yaml_text.specs.Utf8.{chars}
@@ -20,12 +20,12 @@ use Rattle.quoted.specs.declared.fold.Mode.{Mode}
 use Rattle.quoted.specs.declared.fold.Mode.the-variants.{Blanks, Chars, Escaped, Folded, Joined}
 use Rattle.quoted.specs.declared.turns.End.the-variants.{Refused}
 use Rattle.quoted.specs.declared.turns.Quote.{Quote}
-use Rattle.quoted.specs.declared.turns.Turn.{Turn}
+use Rattle.quoted.specs.declared.turns.Progress.{Progress}
 use Rattle.quoted.specs.declared.turns.Turned.{Turned}
 use Rattle.quoted.specs.declared.turns.Turned.the-variants.{Ends}
-use Rattle.quoted.specs.Modes.{Folds, line-number, mode-of, owed}
+use Rattle.quoted.specs.Modes.{PutsKept, line-number, mode-of, owed}
 use Rattle.quoted.specs.Texts.{quote-by, special, text-char}
-use Rattle.quoted.specs.Written.{Sound, TextAt, Turns, blank-turned, break-turned, quote-of, text-turn}
+use Rattle.quoted.specs.Advance.{Advances, Sound, TextAt, blank-turned, break-turned, quote-of, swept, text-turn}
 use Rattle.quoted.proofs.Kept.{text-right, text-wrong}
 use Rattle.quoted.proofs.Lines.{quote-at}
 use Rattle.quoted.proofs.Runs.{run-folded, run-text}
@@ -51,30 +51,31 @@ text-plain {s} {at} {b} single w e f g =
     rw (w .no-blank, w .no-break, q, k, and-comm (not single) (eqb b 92), g)
 
 -- 34: the end
-pub end-turns : {text : List ℕ} {q : Quote} {before after : List ℕ} {t : Turn} {r : Turned} → chars (drop (t .place .at) text) ≡ []
-    → r ≡ Ends (Refused (record { number = 34; mark = q .start })) → Turns text q before after t r
+pub end-turns : {text : List ℕ} {q : Quote} {before after : List ℕ} {t : Progress} {r : Turned} → chars (drop (t .place .at) text) ≡ []
+    → r ≡ Ends (Refused (record { number = 34; mark = q .start })) → after ≡ replicate (length before) 0 → Advances text q before after t r
 unfolding quoted-run
-end-turns {q = q} e f = refused-at 34 (q .start) (rw e) f
+end-turns {q = q} e f z = refused-at 34 (q .start) (rw e) f z
 
-module _ {text : List ℕ} {q : Quote} {t : Turn} {r : Turned} where
+module _ {text : List ℕ} {q : Quote} {t : Progress} {r : Turned} where
   -- a blank
-  pub blank-chosen : (before : List ℕ) {c n : ℕ} → Sound text t → CharAt text (t .place .at) c n → isBlank c ≡ true → r ≡ blank-turned q t c
-      → Turns text q before before t r
-  blank-chosen before {c} {n} s a b f =
+  pub blank-chosen : {before after : List ℕ} {c n : ℕ} → Sound text t → CharAt text (t .place .at) c n → is-blank c ≡ true
+      → (r ≡ blank-turned q t c) × (after ≡ swept before r) → Advances text q before after t r
+  blank-chosen {c = c} {n = n} s a b f =
       let l : n ≡ 1 = first-bytes (drop (t .place .at) text) c n (a .is) .1 ∙ rw (bytes1 c (ascii-low blank-ascii c b .1)) in
-      blank-turns before s (rw l at a) b f
+      blank-turns s (rw l at a) b (f .0) (f .1)
 
   -- a break
-  pub break-chosen : (before : List ℕ) {c n : ℕ} → Sound text t → CharAt text (t .place .at) c n → isBreak c ≡ true
-      → r ≡ break-turned (break-length (chars (drop (t .place .at) text))) t → Turns text q before before t r
+  pub break-chosen : (before : List ℕ) {c n : ℕ} → Sound text t → CharAt text (t .place .at) c n → is-break c ≡ true
+      → r ≡ break-turned (break-length (chars (drop (t .place .at) text))) t → Advances text q before before t r
   break-chosen before {c} {n} s a b f =
       let at = t .place .at in
-      let e : isBreak (getD text at 0) ≡ true = sym (ascii-at text at (getD text at 0) refl break-ascii) ∙ rw (a .next) b in
+      let e : is-break (getD text at 0) ≡ true = sym (ascii-at text at (getD text at 0) refl break-ascii) ∙ rw (a .next) b in
       break-turns before s (break-at (s .stands) refl e refl) f
 
   module _ (w : TextAt text (t .place .at)) {k : ℕ} (e : k ≡ line-number (quote-of q) (t .mode) (t .place .mark) (chars (drop (t .place .at) text))) where
     -- 33, 35
-    pub wrong-turns : {before after : List ℕ} → (k ≡ 0 → ⊥) → r ≡ Ends (Refused (record { number = k; mark = q .start })) → Turns text q before after t r
+    pub wrong-turns : {before after : List ℕ} → (k ≡ 0 → ⊥)
+        → (r ≡ Ends (Refused (record { number = k; mark = q .start }))) × (after ≡ replicate (length before) 0) → Advances text q before after t r
     wrong-turns z f =
         let at = t .place .at in
         let m = t .place .mark in
@@ -83,11 +84,11 @@ module _ {text : List ℕ} {q : Quote} {t : Turn} {r : Turned} where
         (rw (w .is .next)
         (run-text (quote-of q) (mode-of text at (t .mode)) m (w .char) cs (w .no-blank) (w .no-break)
         ∙ rw (text-wrong (quote-of q) m (w .char) cs text at (t .mode) k (rw (w .is .next) at e) z)))
-        f
+        (f .0) (f .1)
 
     -- text behind what was kept back
-    pub fold-turns : {before mid after : List ℕ} {n : ℕ} → k ≡ 0 → Folds text (t .place .at) (t .mode) (t .count) before mid n
-        → Turns text q mid after (text-turn (t .place) n) r → Turns text q before after t r
+    pub fold-turns : {before mid after : List ℕ} {n : ℕ} → k ≡ 0 → PutsKept text (t .place .at) (t .mode) (t .count) before mid n
+        → Advances text q mid after (text-turn (t .place) n) r → Advances text q before after t r
     unfolding mode-of
     fold-turns z f g =
         let at = t .place .at in
@@ -95,7 +96,7 @@ module _ {text : List ℕ} {q : Quote} {t : Turn} {r : Turned} where
         let cs = chars (drop (at + w .len) text) in
         let b = mode-of text at (t .mode) in
         let x = text-right (quote-of q) m (w .char) cs text at (t .mode) (sym (rw (w .is .next) at e) ∙ z) in
-        turns-from (folds-to b) (rw (w .is .next) (run-folded (quote-of q) b m (w .char) cs (folds-to b) (w .no-blank) (w .no-break) x)) (f .bytes) (f .count) refl g
+        turns-from (folds-to b) (rw (w .is .next) (run-folded (quote-of q) b m (w .char) cs (folds-to b) (w .no-blank) (w .no-break) x)) (f .puts .bytes) (f .puts .next) refl g
 
 -- no count of breaks wraps
 least-owed : (at : ℕ) (mode : Mode) → owed 0 mode ≤ owed at mode
@@ -105,5 +106,5 @@ least-owed at (Folded k) = omega arith
 least-owed at Escaped = omega arith
 least-owed at (Joined k) = omega arith
 
-pub owed-small : {text : List ℕ} {t : Turn} → Sound text t → owed 0 (t .mode) < 2 ^ 31
+pub owed-small : {text : List ℕ} {t : Progress} → Sound text t → owed 0 (t .mode) < 2 ^ 31
 owed-small {t = t} s = let l = least-owed (t .place .at) (t .mode) in omega (arith, s .few, s .short, s .stands .within)

@@ -8,7 +8,7 @@ use native.Mathlib.Omega.{arith}
 use lib.Dec.{eqb, ltb}
 use Rattle.yaml_text.specs.declared.Mark.{Mark}
 use Rattle.yaml_text.specs.Char.{tab}
-use Rattle.yaml_text.specs.Mark.{edge-of, isMarker}
+use Rattle.yaml_text.specs.Mark.{edge-of, is-marker}
 use Rattle.yaml_text.specs.Pick.{pick}
 use Rattle.yaml_text.specs.Test.{by-test}
 use Rattle.yaml_text.specs.Utf8.{encode}
@@ -84,12 +84,12 @@ module _ (text : List ℕ) (at next : ℕ) where
 -- where text follows
 module _ (q : Quote) (b : definition.Mode) (m : Mark) (c : ℕ) (cs : List ℕ) where
   abbrev line-refusal : ℕ
-  line-refusal = pick (isMarker m (c ∷ cs)) 33 (pick (ltb (edge-of m) (q .indent)) 35 0)
+  line-refusal = pick (is-marker m (c ∷ cs)) 33 (pick (ltb (edge-of m) (q .indent)) 35 0)
 
   line-wrong : (k : ℕ) → k ≡ line-refusal → (k ≡ 0 → ⊥) → quoted-line q b m c cs ≡ wrong-quote k (q .start)
   unfolding quoted-line
   line-wrong k e z =
-      by-test (isMarker m (c ∷ cs))
+      by-test (is-marker m (c ∷ cs))
       (λ f. rw (e, f, quoted-line))
       (λ f. by-test (ltb (edge-of m) (q .indent))
       (λ g. rw (e, f, g, quoted-line))
@@ -98,7 +98,7 @@ module _ (q : Quote) (b : definition.Mode) (m : Mark) (c : ℕ) (cs : List ℕ) 
   line-right : line-refusal ≡ 0 → quoted-line q b m c cs ≡ quoted-char q (folds-to b) c cs
   unfolding quoted-line
   line-right e =
-      by-test (isMarker m (c ∷ cs))
+      by-test (is-marker m (c ∷ cs))
       (λ f. let z : _≡_ {A = ℕ} 33 0 = rw f at e in absurd (omega arith))
       (λ f. by-test (ltb (edge-of m) (q .indent))
       (λ g. let z : _≡_ {A = ℕ} 35 0 = rw (f, g) at e in absurd (omega arith))

@@ -7,7 +7,7 @@ use lib.Dec.{eqb}
 use lib.ListN.{drop, getD}
 use borrow.Author.Tests.{le-ltb, lt-ltb}
 use Rattle.yaml_text.specs.Class.{peek}
-use Rattle.yaml_text.specs.Mark.{edge-of, isMarker}
+use Rattle.yaml_text.specs.Mark.{edge-of, is-marker}
 use Rattle.yaml_text.specs.Utf8.{chars}
 use Rattle.chars.specs.declared.mark.Place.{Place}
 use Rattle.chars.specs.Bytes.{eq-at}
@@ -15,7 +15,7 @@ use Rattle.quoted.specs.declared.fold.Mode.{Mode}
 use Rattle.quoted.specs.declared.turns.Quote.{Quote}
 use Rattle.quoted.specs.Modes.{held-against, line-number}
 use Rattle.quoted.specs.Texts.{quote-by}
-use Rattle.quoted.specs.Written.{quote-of}
+use Rattle.quoted.specs.Advance.{quote-of}
 
 -- whether the quote stands at an offset
 pub quote-at : (s : List ℕ) (at b : ℕ) → b ≡ getD s at 0 → (single : Bool) → eqb (peek (chars (drop at s)) 0) (quote-by single) ≡ eqb b (quote-by single)
@@ -35,11 +35,11 @@ module _ (text : List ℕ) (q : Quote) (p : Place) (mode : Mode) {b k : ℕ} {h 
   number-free t = rw (held, t)
 
   module _ (t : h ≡ true) where
-    pub number-marker : isMarker (p .mark) (chars (drop (p .at) text)) ≡ true → 33 ≡ number
+    pub number-marker : is-marker (p .mark) (chars (drop (p .at) text)) ≡ true → 33 ≡ number
     unfolding line-number
     number-marker u = rw (held, t, u)
 
-    module _ (u : isMarker (p .mark) (chars (drop (p .at) text)) ≡ false) where
+    module _ (u : is-marker (p .mark) (chars (drop (p .at) text)) ≡ false) where
       pub number-short : edge-of (p .mark) < q .indent → 35 ≡ number
       unfolding line-number
       number-short v = rw (held, t, u, lt-ltb (edge-of (p .mark)) (q .indent) v)

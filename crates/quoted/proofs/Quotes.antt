@@ -9,10 +9,10 @@ use lib.ListN.{drop, getD, length, length-append, length-drop, set}
 use lib.Seq.{length-take-le, sets}
 use borrow.Author.Tests.{eq-eqb, eqb-true}
 use Rattle.yaml_text.specs.Char.{single-quote}
-use Rattle.yaml_text.specs.Class.{isBlank, isBreak, peek}
+use Rattle.yaml_text.specs.Class.{is-blank, is-break, peek}
 use Rattle.yaml_text.specs.Mark.{along, along-by, edge-of}
 use Rattle.yaml_text.specs.Test.{both-true}
-use Rattle.yaml_text.specs.Utf8.{bytesOf, chars, encode}
+use Rattle.yaml_text.specs.Utf8.{char-bytes, chars, encode}
 use Rattle.yaml_text.specs.Utf8Laws.{first-bytes}
 use Rattle.yaml_lexeme.specs.Quoted.{chars-of, quoted-run}
 use Rattle.chars.specs.declared.mark.Place.{Place}
@@ -26,25 +26,25 @@ use Rattle.quoted.specs.declared.turns.Turned.{Turned}
 use Rattle.quoted.specs.declared.turns.Turned.the-variants.{Ends, Goes}
 use Rattle.quoted.specs.Modes.{mode-of}
 use Rattle.quoted.specs.Texts.{quote-by, text-char, words}
-use Rattle.quoted.specs.Written.{Sound, Turns, quote-of, text-turn}
+use Rattle.quoted.specs.Advance.{Advances, Sound, quote-of, text-turn}
 use Rattle.quoted.proofs.Texts.{Passed, pass-along, run-closed, run-pair, run-words, words-more}
 use Rattle.quoted.proofs.Turning.{closed-at, goes-on}
 
-quote-unblank : (single : Bool) → (isBlank (quote-by single) ≡ false) × (isBreak (quote-by single) ≡ false)
-unfolding isBlank isBreak
+quote-unblank : (single : Bool) → (is-blank (quote-by single) ≡ false) × (is-break (quote-by single) ≡ false)
+unfolding is-blank is-break
 quote-unblank true = (refl, refl)
 quote-unblank false = (refl, refl)
 
-single-low : isBreak single-quote ≡ false
-unfolding isBreak
+single-low : is-break single-quote ≡ false
+unfolding is-break
 single-low = refl
 
 module _ {text : List ℕ} {q : Quote} {p : Place} {n : ℕ} {r : Turned} (s : Sound text (text-turn p n)) where
   module _ (a : CharAt text (p .at) (quote-by (q .single)) 1) (b : ℕ) (e : b ≡ getD text (p .at + 1) 0) where
     -- a single one that stands twice
     pub pair-turns : {before after : List ℕ} → (q .single && eqb b 39) ≡ true → after ≡ set before n 39
-        → r ≡ Goes (text-turn (past p 2 (along-by 2 (p .mark))) (n + 1)) → Turns text q before after (text-turn p n) r
-    unfolding mode-of encode bytesOf
+        → r ≡ Goes (text-turn (past p 2 (along-by 2 (p .mark))) (n + 1)) → Advances text q before after (text-turn p n) r
+    unfolding mode-of encode char-bytes
     pair-turns {before} {after} h f k =
         let u = quote-unblank (q .single) in
         let m = p .mark in
@@ -66,7 +66,7 @@ module _ {text : List ℕ} {q : Quote} {p : Place} {n : ℕ} {r : Turned} (s : S
         (omega arith) k
 
     pub close-turns : (before : List ℕ) → (q .single && eqb b 39) ≡ false → r ≡ Ends (Closed (past p 1 (along (p .mark))) n)
-        → Turns text q before before (text-turn p n) r
+        → Advances text q before before (text-turn p n) r
     unfolding mode-of
     close-turns before h k =
         let u = quote-unblank (q .single) in
@@ -79,7 +79,7 @@ module _ {text : List ℕ} {q : Quote} {p : Place} {n : ℕ} {r : Turned} (s : S
   -- a run of text
   pub run-turns : {before after : List ℕ} {c len : ℕ} {e : Place} (spaces : Bool) → (spaces ≡ true → q .indent ≤ edge-of (p .mark)) → CharAt text (p .at) c len
       → text-char (q .single) c ≡ true → Spans text p e (words spaces (q .single) (p .mark) (chars (drop (p .at) text)))
-      → after ≡ sets before n (part text (p .at) (e .at)) → r ≡ Goes (text-turn e (n + (e .at - p .at))) → Turns text q before after (text-turn p n) r
+      → after ≡ sets before n (part text (p .at) (e .at)) → r ≡ Goes (text-turn e (n + (e .at - p .at))) → Advances text q before after (text-turn p n) r
   unfolding mode-of encode
   run-turns {before} {after} {c} {len} {e} spaces h a t w f k =
       let m = p .mark in
@@ -88,8 +88,8 @@ module _ {text : List ℕ} {q : Quote} {p : Place} {n : ℕ} {r : Turned} (s : S
       let o = w .moves .onward in
       let l : length (encode (y .text)) ≡ e .at - p .at =
       ap length (w .bytes) ∙ length-take-le (e .at - p .at) _ (omega (arith, length-drop (p .at) text, w .moves .stands .within)) in
-      let g : length (encode (y .text)) ≡ length (bytesOf c) + length (encode (z .text)) =
-      rw (a .next, words-more spaces (q .single) m c (chars (drop (p .at + len) text)) (rw t)) (length-append (bytesOf c) (encode (z .text))) in
+      let g : length (encode (y .text)) ≡ length (char-bytes c) + length (encode (z .text)) =
+      rw (a .next, words-more spaces (q .single) m c (chars (drop (p .at + len) text)) (rw t)) (length-append (char-bytes c) (encode (z .text))) in
       let i = first-bytes (drop (p .at) text) c len (a .is) .1 in
       goes-on (y .text) (text-turn e (n + (e .at - p .at))) (run-words (quote-of q) spaces m (chars (drop (p .at) text)) h ∙ rw (← (w .moves .same))) (f ∙ rw (w .bytes)) (rw l)
       (record { stands = w .moves .stands; short = s .short; kept = tt; few = omega (arith, s .few) })

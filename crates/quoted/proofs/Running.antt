@@ -13,18 +13,18 @@ use Rattle.reading.specs.Reading.{first-at}
 use Rattle.quoted.specs.declared.turns.End.{End}
 use Rattle.quoted.specs.declared.turns.End.the-variants.{Closed, Refused}
 use Rattle.quoted.specs.declared.turns.Quote.{Quote}
-use Rattle.quoted.specs.declared.turns.Turn.{Turn}
+use Rattle.quoted.specs.declared.turns.Progress.{Progress}
 use Rattle.quoted.specs.declared.turns.Turned.{Turned}
 use Rattle.quoted.specs.declared.turns.Turned.the-variants.{Ends, Goes}
 use Rattle.quoted.specs.Modes.{mode-of}
-use Rattle.quoted.specs.Written.{Behind, Ran, Sound, Turns, led-to, quote-of, text-turn, to-write, written}
+use Rattle.quoted.specs.Advance.{Advances, ClosedBehind, EndLeaves, RunEnds, Sound, led-to, quote-of, text-turn, to-write, written}
 
-pub record Running (text : List ℕ) (q : Quote) (before out : List ℕ) (t : Turn) : Type 0 where
+pub record Running (text : List ℕ) (q : Quote) (before out : List ℕ) (t : Progress) : Type 0 where
   pub sound : Sound text t
   pub same : length out ≡ length before
   pub whole : written before 0 (quoted-run (quote-of q) chars-of 0 (along (q .start)) (chars (drop 1 text))) ≡ to-write text q out t
 
-pub running-start : {text : List ℕ} {q : Quote} {t : Turn} (before : List ℕ) → Stands text (first-at (q .start)) → 1 ≤ length text
+pub running-start : {text : List ℕ} {q : Quote} {t : Progress} (before : List ℕ) → Stands text (first-at (q .start)) → 1 ≤ length text
     → t ≡ text-turn (past (first-at (q .start)) 1 (along (q .start))) 0 → Running text q before before t
 unfolding mode-of
 running-start before s h e =
@@ -35,19 +35,23 @@ running-start before s h e =
       whole = refl;
     })
 
-behind-from : (text : List ℕ) (at : ℕ) (e : End) → Behind text at e → Behind text 0 e
+behind-from : (text : List ℕ) (at : ℕ) (e : End) → ClosedBehind text at e → ClosedBehind text 0 e
 behind-from text at (Closed p n) h = (h .0, omega (arith, h .1), h .2)
 behind-from text at (Refused f) h = tt
 
-module _ {text : List ℕ} {q : Quote} {before out next : List ℕ} {t : Turn} {r : Turned} (w : Running text q before out t) (h : Turns text q out next t r) where
-  pub running-more : {u : Turn} → r ≡ Goes u → length next ≡ length out → Running text q before next u
+end-leaves : (before out next : List ℕ) (e : End) → length out ≡ length before → EndLeaves out next e → EndLeaves before next e
+end-leaves before out next (Closed p n) l h = h ∙ l
+end-leaves before out next (Refused f) l h = h ∙ rw l
+
+module _ {text : List ℕ} {q : Quote} {before out next : List ℕ} {t : Progress} {r : Turned} (w : Running text q before out t) (h : Advances text q out next t r) where
+  pub running-more : {u : Progress} → r ≡ Goes u → length next ≡ length out → Running text q before next u
   unfolding led-to
   running-more e l = let k = rw e at h in record { sound = k .onward .0; same = l ∙ w .same; whole = w .whole ∙ k .same }
 
   -- each turn reads a byte
-  pub running-less : {u : Turn} → r ≡ Goes u → (t .place .at < u .place .at) × (u .place .at ≤ length text)
+  pub running-less : {u : Progress} → r ≡ Goes u → (t .place .at < u .place .at) × (u .place .at ≤ length text)
   running-less e = let k = rw e at h in (k .onward .1, k .onward .0 .stands .within)
 
-  pub running-done : {e : End} → r ≡ Ends e → Ran text q before next e
+  pub running-done : {e : End} → r ≡ Ends e → RunEnds text q before next e
   unfolding led-to
-  running-done {e} f = let k = rw f at h in record { same = w .whole ∙ k .same; behind = behind-from text (t .place .at) e (k .onward) }
+  running-done {e} f = let k = rw f at h in record { same = w .whole ∙ k .same; leaves = end-leaves before out next e (w .same) (k .leaves); behind = behind-from text (t .place .at) e (k .onward) }

@@ -8,21 +8,21 @@ use lib.Dec.{eqb}
 use lib.ListN.{drop}
 use Rattle.yaml_text.specs.declared.Mark.{Mark}
 use Rattle.yaml_text.specs.Char.{backslash, carriage-return, line-feed, single-quote}
-use Rattle.yaml_text.specs.Class.{isBlank, isBreak, peek}
-use Rattle.yaml_text.specs.Mark.{Place, along, halfBreak, here, new-line, over}
+use Rattle.yaml_text.specs.Class.{is-blank, is-break, peek}
+use Rattle.yaml_text.specs.Mark.{Place, along, half-break, here, new-line, over}
 use Rattle.yaml_text.specs.MarkLaws.{over-along, over-break}
 use Rattle.yaml_text.specs.Refusal.{Read, before-read, got, refused}
 use Rattle.yaml_text.specs.Mark.{Run}
 use Rattle.yaml_text.specs.Test.{by-test}
 use Rattle.yaml_lexeme.specs.Escape.{Escaped, escape}
-use Rattle.yaml_lexeme.specs.Quoted.{Mode, Quote, Turn, after-turn, broken, chars-of, closes, escape-turn, goes, quote-char, quoted-blank, quoted-break, quoted-char, quoted-run, quoted-text, quoted-turn, wrong-quote}
+use Rattle.yaml_lexeme.specs.Quoted.{Mode, Quote, QuotedTurn, after-turn, broken, chars-of, closes, escape-turn, goes, quote-char, quoted-blank, quoted-break, quoted-char, quoted-run, quoted-text, quoted-turn, wrong-quote}
 use Rattle.yaml_lexeme.specs.Turns.{quoted-turned}
 use Rattle.chars.specs.Ascii.{apart, blank-unbroken, break-ascii}
 use Rattle.gaps.specs.Breaks.{Breaks, none, one, two}
 
-break-unblank : (c : ℕ) → isBreak c ≡ true → isBlank c ≡ false
-unfolding isBlank isBreak
-break-unblank = apart isBlank break-ascii tt
+break-unblank : (c : ℕ) → is-break c ≡ true → is-blank c ≡ false
+unfolding is-blank is-break
+break-unblank = apart is-blank break-ascii tt
 
 pub before-none : (r : Read Run) → before-read [] r ≡ r
 unfolding before-read
@@ -35,23 +35,23 @@ before-both t u (got r) = rw (append-assoc t u (r .text))
 before-both t u (refused n m) = refl
 
 -- behind a character that is no break
-abbrev pub behind : Quote → Mark → List ℕ → Turn → Read Run
+abbrev pub behind : Quote → Mark → List ℕ → QuotedTurn → Read Run
 behind q m cs t = after-turn t (λ b n. quoted-run q b n (along m) cs) (here (along m) cs)
 
 module _ (q : Quote) (b : Mode) (m : Mark) where
   module _ (c : ℕ) (cs : List ℕ) where
-    turn-along : isBreak c ≡ false → quoted-run q b 0 m (c ∷ cs) ≡ behind q m cs (quoted-turn q b m c cs)
+    turn-along : is-break c ≡ false → quoted-run q b 0 m (c ∷ cs) ≡ behind q m cs (quoted-turn q b m c cs)
     turn-along e = quoted-turned q b m c cs ∙ rw (over-along m c (peek cs 0) e)
 
-    pub run-blank : isBlank c ≡ true → quoted-run q b 0 m (c ∷ cs) ≡ behind q m cs (quoted-blank q m c b)
+    pub run-blank : is-blank c ≡ true → quoted-run q b 0 m (c ∷ cs) ≡ behind q m cs (quoted-blank q m c b)
     unfolding quoted-turn
     run-blank e = turn-along (blank-unbroken c e) ∙ rw (e, quoted-turn)
 
-    pub run-text : isBlank c ≡ false → isBreak c ≡ false → quoted-run q b 0 m (c ∷ cs) ≡ behind q m cs (quoted-text q b m c cs)
+    pub run-text : is-blank c ≡ false → is-break c ≡ false → quoted-run q b 0 m (c ∷ cs) ≡ behind q m cs (quoted-text q b m c cs)
     unfolding quoted-turn
     run-text e f = turn-along f ∙ rw (e, f, quoted-turn)
 
-  break-one : (c : ℕ) (cs : List ℕ) → isBreak c ≡ true → halfBreak c (peek cs 0) ≡ false
+  break-one : (c : ℕ) (cs : List ℕ) → is-break c ≡ true → half-break c (peek cs 0) ≡ false
       → quoted-run q b 0 m (c ∷ cs) ≡ quoted-run q (broken b) 0 (new-line 1 m) cs
   unfolding quoted-turn quoted-break
   break-one c cs e f =
@@ -60,16 +60,16 @@ module _ (q : Quote) (b : Mode) (m : Mark) where
 
   -- the CR of a CR LF
   break-half : (cs : List ℕ) → quoted-run q b 0 m (carriage-return ∷ line-feed ∷ cs) ≡ quoted-run q b 0 (over m carriage-return line-feed) (line-feed ∷ cs)
-  unfolding quoted-turn quoted-break isBlank isBreak halfBreak
+  unfolding quoted-turn quoted-break is-blank is-break half-break
   break-half cs = quoted-turned q b m carriage-return (line-feed ∷ cs) ∙ before-none (quoted-run q b 0 (over m carriage-return line-feed) (line-feed ∷ cs))
 
-feed-one : (d : ℕ) → (isBreak line-feed ≡ true) × (halfBreak line-feed d ≡ false)
-unfolding isBreak halfBreak
+feed-one : (d : ℕ) → (is-break line-feed ≡ true) × (half-break line-feed d ≡ false)
+unfolding is-break half-break
 feed-one d = (refl, refl)
 
 pub run-break : (q : Quote) (b : Mode) (m : Mark) {cs : List ℕ} {n : ℕ} → Breaks cs n → 1 ≤ n
     → quoted-run q b 0 m cs ≡ quoted-run q (broken b) 0 (new-line n m) (drop n cs)
-unfolding over halfBreak
+unfolding over half-break
 run-break q b m (two {cs}) h =
     let f = feed-one (peek cs 0) in
     let e : m .index + 1 + 1 ≡ m .index + 2 = omega arith in
@@ -80,18 +80,18 @@ run-break q b m (none e) h = absurd (omega arith)
 -- passing over the break behind a backslash
 pub pass-break : (q : Quote) (b : Mode) (m : Mark) {cs : List ℕ} {n : ℕ} → Breaks cs n → 1 ≤ n
     → quoted-run q b n m cs ≡ quoted-run q b 0 (new-line n m) (drop n cs)
-unfolding quoted-run over halfBreak isBreak
+unfolding quoted-run over half-break is-break
 pass-break q b m (two {cs}) h = let e : m .index + 1 + 1 ≡ m .index + 2 = omega arith in rw e
 pass-break q b m (one {c} {cs} e f) h = ap (λ (k : Mark). quoted-run q b 0 k cs) (over-break m c (peek cs 0) f e)
 pass-break q b m (none e) h = absurd (omega arith)
 
 -- a text before what a turn puts
-prefix : List ℕ → Turn → Turn
+prefix : List ℕ → QuotedTurn → QuotedTurn
 prefix t (goes u b n) = goes (t ++ u) b n
 prefix t (closes u) = closes (t ++ u)
 prefix t (wrong-quote n m) = wrong-quote n m
 
-after-prefix : (t : List ℕ) (x : Turn) (go : Mode → ℕ → Read Run) (p : Place) → after-turn (prefix t x) go p ≡ before-read t (after-turn x go p)
+after-prefix : (t : List ℕ) (x : QuotedTurn) (go : Mode → ℕ → Read Run) (p : Place) → after-turn (prefix t x) go p ≡ before-read t (after-turn x go p)
 unfolding prefix before-read
 after-prefix t (goes u b n) go p = before-both t u (go b n)
 after-prefix t (closes u) go p = refl
@@ -110,13 +110,13 @@ char-prefix q t c cs =
     (λ f. rw (e, f, quoted-char))
     (λ f. rw (e, f, quoted-char, append-nil t)))
     (λ e. by-test (not (q .single) && eqb c backslash)
-    (λ f. by-test (isBreak (peek cs 0))
+    (λ f. by-test (is-break (peek cs 0))
     (λ g. rw (e, f, g, quoted-char, append-nil t))
     (λ g. rw (e, f, g, quoted-char) (escape-prefix t (escape (q .start) cs))))
     (λ f. rw (e, f, quoted-char)))
 
 -- text behind what was kept back
-pub run-folded : (q : Quote) (b : Mode) (m : Mark) (c : ℕ) (cs t : List ℕ) → isBlank c ≡ false → isBreak c ≡ false → quoted-text q b m c cs ≡ quoted-char q t c cs
+pub run-folded : (q : Quote) (b : Mode) (m : Mark) (c : ℕ) (cs t : List ℕ) → is-blank c ≡ false → is-break c ≡ false → quoted-text q b m c cs ≡ quoted-char q t c cs
     → quoted-run q b 0 m (c ∷ cs) ≡ before-read t (quoted-run q chars-of 0 m (c ∷ cs))
 unfolding quoted-text
 run-folded q b m c cs t e f g =

@@ -9,8 +9,8 @@ use lib.ListN.{drop}
 use borrow.Author.Tests.{eqb-true, le-ltb, ne-eqb, not-true}
 use Rattle.yaml_text.specs.declared.Mark.{Mark}
 use Rattle.yaml_text.specs.Char.{backslash, single-quote, space}
-use Rattle.yaml_text.specs.Class.{isBlank, isBreak, peek}
-use Rattle.yaml_text.specs.Mark.{along, along-by, before-run, break-length, edge-of, here, isMarker, nothing-at}
+use Rattle.yaml_text.specs.Class.{is-blank, is-break, peek}
+use Rattle.yaml_text.specs.Mark.{along, along-by, before-run, break-length, edge-of, here, is-marker, nothing-at}
 use Rattle.yaml_text.specs.MarkLaws.{over-along}
 use Rattle.yaml_text.specs.Refusal.{before-read, got}
 use Rattle.yaml_text.specs.Test.{both-true, by-test, true-false}
@@ -26,7 +26,7 @@ use Rattle.quoted.proofs.Runs.{before-both, before-none, behind, run-bl
 
 -- a character of one byte that is no break
 abbrev pub Low : ℕ → Type 0
-Low c = (0 < c) × (c < 128) × (isBreak c ≡ false)
+Low c = (0 < c) × (c < 128) × (is-break c ≡ false)
 
 -- so many of them
 abbrev pub Passed : ℕ → List ℕ → Type 0
@@ -54,7 +54,7 @@ pass-reach s at (suc k) h =
     rw e (more a (pass-reach s (at + 1) k (rw (a .next) at (h .1))))
 
 -- a character that is neither blank nor break, behind text
-module _ (q : Quote) (m : Mark) (c : ℕ) (cs : List ℕ) (h : isBlank c ≡ false) (k : isBreak c ≡ false) where
+module _ (q : Quote) (m : Mark) (c : ℕ) (cs : List ℕ) (h : is-blank c ≡ false) (k : is-break c ≡ false) where
   run-char : quoted-run q chars-of 0 m (c ∷ cs) ≡ behind q m cs (quoted-char q [] c cs)
   unfolding quoted-text
   run-char = run-text q chars-of m c cs h k
@@ -71,12 +71,12 @@ module _ (q : Quote) (m : Mark) (c : ℕ) (cs : List ℕ) (h : isBlank c ≡ fal
     run-pair f = run-char ∙ rw (e, f, quoted-char)
 
   module _ (e : eqb c (quote-char q) ≡ false) where
-    pub run-joined : (not (q .single) && eqb c backslash) ≡ true → isBreak (peek cs 0) ≡ true
+    pub run-joined : (not (q .single) && eqb c backslash) ≡ true → is-break (peek cs 0) ≡ true
         → quoted-run q chars-of 0 m (c ∷ cs) ≡ quoted-run q (joined 0 true) (break-length cs) (along m) cs
     unfolding quoted-char
     run-joined f g = run-char ∙ rw (e, f, g, quoted-char) (before-none (quoted-run q (joined 0 true) (break-length cs) (along m) cs))
 
-    pub run-escape : (not (q .single) && eqb c backslash) ≡ true → isBreak (peek cs 0) ≡ false
+    pub run-escape : (not (q .single) && eqb c backslash) ≡ true → is-break (peek cs 0) ≡ false
         → quoted-run q chars-of 0 m (c ∷ cs) ≡ behind q m cs (escape-turn [] (escape (q .start) cs))
     unfolding quoted-char
     run-escape f g = run-char ∙ rw (e, f, g, quoted-char)
@@ -97,7 +97,7 @@ run-plain : (q : Quote) (m : Mark) (c : ℕ) (cs : List ℕ) → text-char (q .s
     → quoted-run q chars-of 0 m (c ∷ cs) ≡ before-read (c ∷ []) (quoted-run q chars-of 0 (along m) cs)
 unfolding text-char special
 run-plain q m c cs e =
-    let f = none-of (isBlank c) (isBreak c) (eqb c (quote-by (q .single))) (not (q .single) && eqb c backslash) (not-true _ e) in
+    let f = none-of (is-blank c) (is-break c) (eqb c (quote-by (q .single))) (not (q .single) && eqb c backslash) (not-true _ e) in
     run-other q m c cs (f .0) (f .1) (f .2) (f .3)
 
 pub ordinary-ascii : Ascii ordinary
@@ -105,27 +105,27 @@ unfolding ordinary
 ordinary-ascii = range 40 91 tt tt or range 93 127 tt tt
 
 pub ordinary-plain : (single : Bool) (c : ℕ) → ordinary c ≡ true → special single c ≡ false
-unfolding ordinary special isBlank isBreak
+unfolding ordinary special is-blank is-break
 ordinary-plain true = apart (special true) ordinary-ascii tt
 ordinary-plain false = apart (special false) ordinary-ascii tt
 
-ordinary-text : (o : ℕ) → ordinary o ≡ true → (isBlank o ≡ false) × (isBreak o ≡ false)
+ordinary-text : (o : ℕ) → ordinary o ≡ true → (is-blank o ≡ false) × (is-break o ≡ false)
 unfolding special
-ordinary-text o e = let f = none-of (isBlank o) (isBreak o) (eqb o (quote-by true)) (not true && eqb o backslash) (ordinary-plain true o e) in (f .0, f .1)
+ordinary-text o e = let f = none-of (is-blank o) (is-break o) (eqb o (quote-by true)) (not true && eqb o backslash) (ordinary-plain true o e) in (f .0, f .1)
 
 none-ordinary : ordinary 0 ≡ false
 unfolding ordinary
 none-ordinary = refl
 
-space-blank : isBlank space ≡ true
-unfolding isBlank
+space-blank : is-blank space ≡ true
+unfolding is-blank
 space-blank = refl
 
-behind-none : (m : Mark) (cs : List ℕ) → isMarker (along m) cs ≡ false
-unfolding isMarker
+behind-none : (m : Mark) (cs : List ℕ) → is-marker (along m) cs ≡ false
+unfolding is-marker
 behind-none m cs = rw (ne-eqb (m .col + 1) 0 (omega arith))
 
-line-goes : (q : Quote) (b : Mode) (m : Mark) (c : ℕ) (cs : List ℕ) → isMarker m (c ∷ cs) ≡ false → ltb (edge-of m) (q .indent) ≡ false
+line-goes : (q : Quote) (b : Mode) (m : Mark) (c : ℕ) (cs : List ℕ) → is-marker m (c ∷ cs) ≡ false → ltb (edge-of m) (q .indent) ≡ false
     → quoted-line q b m c cs ≡ quoted-char q (folds-to b) c cs
 unfolding quoted-line
 line-goes q b m c cs e f = rw (e, f, quoted-line)

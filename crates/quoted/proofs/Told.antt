@@ -1,22 +1,23 @@
 -- An escape takes a character or more behind the backslash, each of one byte and no break; a refusal is at the scalar's start.
 use Prim.Native.Nat.{_*_, _+_, _≤_, suc, zero, ℕ}
-use mathlib.Core.Bool.{Bool, false, true}
+use mathlib.Core.Bool.{Bool, _&&_, _||_, false, not, true}
 use mathlib.Core.List.{List}
 use mathlib.Core.Path.{_≡_, refl}
 use native.Mathlib.Numerals.{add-one}
 use native.Mathlib.Omega.{arith}
-use lib.Dec.{T, eqb, ltb, ltb→lt}
+use lib.Dec.{T, ltb, ltb→lt}
+use mir.Facts.{and-yes}
 use lib.ListN.{drop}
-use borrow.Author.Tests.{ne-eqb}
 use Rattle.yaml_text.specs.declared.Mark.{Mark}
-use Rattle.yaml_text.specs.Class.{asHex, isBreak, isDigit, isHex, peek}
+use Rattle.yaml_text.specs.Class.{as-hex, is-break, is-digit, is-hex, peek}
 use Rattle.yaml_text.specs.Refusal.{Read, _>>=_, got, need, refused}
 use Rattle.yaml_text.specs.Test.{by-test}
-use Rattle.yaml_text.specs.Utf8.{isScalar}
+use Rattle.yaml_text.specs.Utf8.{is-scalar}
 use Rattle.yaml_lexeme.specs.declared.Named.{Named}
 use Rattle.yaml_lexeme.specs.declared.Named.the-variants.{Digits, Stands, Unknown}
 use Rattle.yaml_lexeme.specs.Escape.{Escaped, escape, escape-of, hex-number, named}
-use Rattle.chars.specs.Ascii.{Ascii, apart, ascii-low, hex-ascii}
+use Rattle.yaml_lexeme.specs.EscapeTable.{by-letter}
+use Rattle.chars.specs.Ascii.{apart, ascii-low, hex-ascii}
 use Rattle.quoted.proofs.Texts.{Low, Passed}
 
 -- the letters behind a backslash
@@ -28,47 +29,24 @@ known Unknown = false
 abbrev lettered : ℕ → Bool
 lettered c = known (named c)
 
-unlettered : (c : ℕ) → 128 ≤ c → named c ≡ Unknown
-unfolding named
-unlettered c h =
-    rw (
-      off 48 tt,
-      off 97 tt,
-      off 98 tt,
-      off 116 tt,
-      off 9 tt,
-      off 110 tt,
-      off 118 tt,
-      off 102 tt,
-      off 114 tt,
-      off 101 tt,
-      off 32 tt,
-      off 34 tt,
-      off 47 tt,
-      off 92 tt,
-      off 78 tt,
-      off 95 tt,
-      off 76 tt,
-      off 80 tt,
-      off 120 tt,
-      off 117 tt,
-      off 85 tt,
-    )
-  where
-    off : (k : ℕ) → T (ltb k 128) → eqb c k ≡ false
-    off k t = let l = ltb→lt k 128 t in ne-eqb c k (omega arith)
-
-lettered-ascii : Ascii lettered
-unfolding known named
-lettered-ascii = record { end = refl; high = λ c h. rw (unlettered c h) }
+low-letter : ℕ → Named → Bool
+low-letter c k = not (known k) || (ltb 0 c && ltb c 128 && not (is-break c))
 
 letter-low : (c : ℕ) → lettered c ≡ true → Low c
-unfolding known named isBreak
-letter-low c e = let l = ascii-low lettered-ascii c e in (l .0, l .1, apart isBreak lettered-ascii tt c e)
+unfolding low-letter known is-break
+letter-low c e =
+    let t : T (ltb 0 c && ltb c 128 && not (is-break c)) = rw e at (by-letter low-letter tt c tt) in
+    let a = and-yes (ltb 0 c && ltb c 128) (not (is-break c)) t in
+    let b = and-yes (ltb 0 c) (ltb c 128) (a .0) in
+    (ltb→lt 0 c (b .0), ltb→lt c 128 (b .1), not-so (is-break c) (a .1))
+  where
+    not-so : (b : Bool) → T (not b) → b ≡ false
+    not-so true t = absurd t
+    not-so false t = refl
 
-hex-low : (c : ℕ) → isHex c ≡ true → Low c
-unfolding isHex isDigit isBreak
-hex-low c e = let l = ascii-low hex-ascii c e in (l .0, l .1, apart isBreak hex-ascii tt c e)
+hex-low : (c : ℕ) → is-hex c ≡ true → Low c
+unfolding is-hex is-digit is-break
+hex-low c e = let l = ascii-low hex-ascii c e in (l .0, l .1, apart is-break hex-ascii tt c e)
 
 module _ (start : Mark) where
   -- so many characters are taken, or it is refused at the start
@@ -88,15 +66,15 @@ module _ (start : Mark) where
   unfolding hex-number
   hex-told zero v cs = tt
   hex-told (suc n) v cs =
-      let w = v * 16 + asHex (peek cs 0) in
-      by-test (isHex (peek cs 0))
+      let w = v * 16 + as-hex (peek cs 0) in
+      by-test (is-hex (peek cs 0))
       (λ e. rw (e, hex-number) (hex-more n cs (hex-number start n w (drop 1 cs)) (hex-low (peek cs 0) e) (hex-told n w (drop 1 cs))))
       (λ e. rw (e, hex-number) refl)
 
   digits-told : (n : ℕ) (cs : List ℕ) (r : Read ℕ) → Low (peek cs 0) → HexTold n (drop 1 cs) r
-      → Told cs (r >>= λ v. need (isScalar 0 v) 39 start >>= λ _. got (record { char = v; took = n + 1 }))
+      → Told cs (r >>= λ v. need (is-scalar 0 v) 39 start >>= λ _. got (record { char = v; took = n + 1 }))
   unfolding _>>=_ need
-  digits-told n cs (got v) h k = by-test (isScalar 0 v) (λ e. rw (e, add-one n) (omega arith, (h, k))) (λ e. rw e refl)
+  digits-told n cs (got v) h k = by-test (is-scalar 0 v) (λ e. rw (e, add-one n) (omega arith, (h, k))) (λ e. rw e refl)
   digits-told n cs (refused x m) h k = k
 
   told-by : (cs : List ℕ) (k : Named) → (known k ≡ true → Low (peek cs 0)) → Told cs (escape-of start k (drop 1 cs))

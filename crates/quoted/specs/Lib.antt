@@ -1,4 +1,4 @@
 pub mod Modes
 pub mod Texts
-pub mod Written
+pub mod Advance
 pub mod After

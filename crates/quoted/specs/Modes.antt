@@ -4,16 +4,15 @@ use mathlib.Core.Bool.{Bool, false, not, true}
 use mathlib.Core.List.{List}
 use mathlib.Core.Path.{_≡_}
 use lib.Dec.{eqb, ltb}
-use lib.ListN.{length}
-use lib.Seq.{sets}
 use Rattle.yaml_text.specs.declared.Mark.{Mark}
 use Rattle.yaml_text.specs.Class.{peek}
-use Rattle.yaml_text.specs.Mark.{edge-of, isMarker}
+use Rattle.yaml_text.specs.Mark.{edge-of, is-marker}
 use Rattle.yaml_text.specs.Pick.{pick}
 use Rattle.yaml_text.specs.Utf8.{encode}
 use Rattle.yaml_lexeme.specs.Quoted.{blanks-of, chars-of, folded, folds-to, joined, quote-char}
 use Rattle.yaml_lexeme.specs.Quoted as definition
 use Rattle.chars.specs.Parts.{part}
+use Rattle.reading.specs.Puts.{Puts}
 use Rattle.quoted.specs.declared.fold.Mode.{Mode}
 use Rattle.quoted.specs.declared.fold.Mode.the-variants.{Blanks, Chars, Escaped, Folded, Joined}
 
@@ -77,11 +76,10 @@ held-against (Joined k) quote = true
 unfoldable pub line-number : definition.Quote → Mode → Mark → List ℕ → ℕ
 line-number q mode m cs =
     pick (held-against mode (eqb (peek cs 0) (quote-char q)))
-    (pick (isMarker m cs) 33 (pick (ltb (edge-of m) (q .indent)) 35 0))
+    (pick (is-marker m cs) 33 (pick (ltb (edge-of m) (q .indent)) 35 0))
     0
 
 -- what is kept back at an offset was stored from n on, and the next byte goes to r
-pub record Folds (text : List ℕ) (at : ℕ) (mode : Mode) (n : ℕ) (before after : List ℕ) (r : ℕ) : Type 0 where
-  pub bytes : after ≡ sets before n (encode (folds-to (mode-of text at mode)))
-  pub count : r ≡ n + length (encode (folds-to (mode-of text at mode)))
+pub record PutsKept (text : List ℕ) (at : ℕ) (mode : Mode) (n : ℕ) (before after : List ℕ) (r : ℕ) : Type 0 where
+  pub puts : Puts before n after r (folds-to (mode-of text at mode))
   pub few : r ≤ n + owed at mode

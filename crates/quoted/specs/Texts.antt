@@ -5,7 +5,7 @@ use mathlib.Core.List.{List, [], _∷_}
 use lib.Dec.{eqb, leb}
 use Rattle.yaml_text.specs.declared.Mark.{Mark}
 use Rattle.yaml_text.specs.Char.{backslash, double-quote, single-quote, space}
-use Rattle.yaml_text.specs.Class.{isBlank, isBreak, peek}
+use Rattle.yaml_text.specs.Class.{is-blank, is-break, peek}
 use Rattle.yaml_text.specs.Mark.{Run, along, before-run, here, nothing-at}
 use Rattle.yaml_text.specs.Pick.{pick}
 
@@ -15,7 +15,7 @@ quote-by single = pick single single-quote double-quote
 
 -- a run of text ends here
 unfoldable pub special : Bool → ℕ → Bool
-special single c = isBlank c || isBreak c || eqb c (quote-by single) || (not single && eqb c backslash)
+special single c = is-blank c || is-break c || eqb c (quote-by single) || (not single && eqb c backslash)
 
 unfoldable pub text-char : Bool → ℕ → Bool
 text-char single c = not (special single c)

@@ -8,17 +8,18 @@ ghost use Rattle.yaml_text.specs.Utf8.{encode};
 ghost use Rattle.yaml_lexeme.specs.declared.Style.the-variants.{DoubleQuoted, SingleQuoted};
 ghost use Rattle.yaml_lexeme.specs.Quoted.{fits-after, scan-flow-scalar};
 ghost use Rattle.chars.specs.View.{Stands, view};
+ghost use Rattle.reading.specs.Answers.{Answers};
 ghost use Rattle.reading.specs.Reading.{Indicated, Lexes, first-at};
-ghost use Rattle.quoted.specs.After.{Follows, Reads, after-run};
-ghost use Rattle.quoted.specs.Written.{Ran, quote-of};
+ghost use Rattle.quoted.specs.After.{after-run};
+ghost use Rattle.quoted.specs.Advance.{RunEnds, quote-of};
 
-pub mod fold;
-pub mod turns;
+mod fold;
+mod turns;
 
 use crate::fold::Mode;
 use crate::turns::End;
+use crate::turns::Progress;
 use crate::turns::Quote;
-use crate::turns::Turn;
 use crate::turns::Turned;
 use crate::turns::quoted_turn;
 use chars::class::is_breakz;
@@ -38,11 +39,11 @@ use yaml_text::Refusal;
 // The scalar's text from behind its opening quote.
 fn quoted_run(text: &[u8], q: Quote, out: &mut [u8]) -> End
     requires { ⌜ Stands (now text) (first-at (q .start)) × (1 ≤ length (now text)) ⌝ }
-    ensures { λ r. ⌜ Ran (now (text .entry)) q (now (out .entry)) (now (out .exit)) r ⌝ }
+    ensures { λ r. ⌜ RunEnds (now (text .entry)) q (now (out .entry)) (now (out .exit)) r ⌝ }
 {
     let start = q.start;
     let first = Place { at: 0, mark: start };
-    let mut t = Turn {
+    let mut t = Progress {
         place: first.skip_blank(),
         mode: Mode::Chars,
         count: 0,
@@ -79,7 +80,7 @@ fn quoted_style(single: bool) -> Style
 // What follows the closing quote, of a text of n bytes.
 fn after_quote(text: &[u8], q: Quote, flow: bool, p: Place, used: u32, n: usize) -> Reading
     requires { ⌜ Stands (now text) p × (1 ≤ p .at) × (n ≤ 3 * p .at) × (length (now text) ≤ 2 ^ 20) ⌝ }
-    ensures { λ r. ⌜ ((t : List ℕ) → length (encode t) ≡ n → Follows (now (text .entry)) used r (after-run flow (quote-of q) (record { text = t; place = view (now (text .entry)) p }))) ⌝ }
+    ensures { λ r. ⌜ ((t : List ℕ) → length (encode t) ≡ n → Answers (now (text .entry)) used r (after-run flow (quote-of q) (record { text = t; place = view (now (text .entry)) p }))) ⌝ }
 {
     let r = gaps::blanks_and_comment(text, p);
     match r {
@@ -101,17 +102,6 @@ fn after_quote(text: &[u8], q: Quote, flow: bool, p: Place, used: u32, n: usize)
     }
 }
 
-fn read_quoted(text: &[u8], q: Quote, flow: bool, used: u32, out: &mut [u8]) -> Reading
-    requires { ⌜ Indicated (now text) (q .start) used ⌝ }
-    ensures { λ r. ⌜ Reads (now (text .entry)) (now (out .entry)) (now (out .exit)) used r (scan-flow-scalar flow (q .single) (q .indent) (view (now (text .entry)) (first-at (q .start)))) ⌝ }
-{
-    let r = quoted_run(text, q, out);
-    match r {
-        End::Closed(p, n) => after_quote(text, q, flow, p, used, n),
-        End::Refused(f) => Reading::Refused(f),
-    }
-}
-
 // From its opening quote; the span takes in the blanks and comment behind it.
 pub fn scan_flow_scalar(
     text: &[u8],
@@ -130,5 +120,11 @@ pub fn scan_flow_scalar(
         indent: indent,
         start: start,
     };
-    clear_refused(read_quoted(text, q, flow, used, out), out)
+    let r = quoted_run(text, q, out);
+    match r {
+        End::Closed { place, count } => {
+            clear_refused(after_quote(text, q, flow, place, used, count), out)
+        }
+        End::Refused(f) => Reading::Refused(f),
+    }
 }

@@ -2,7 +2,7 @@
 ghost use Prim.Native.Nat.{_+_, _<_, _^_, _≤_};
 ghost use mathlib.Core.Bool.{false};
 ghost use mathlib.Core.Path.{_≡_};
-ghost use lib.ListN.{drop, getD, length};
+ghost use lib.ListN.{drop, getD, length, replicate};
 ghost use Rattle.yaml_text.specs.Mark.{break-length};
 ghost use Rattle.yaml_text.specs.Utf8.{chars};
 ghost use Rattle.chars.specs.Bytes.{CharAt};
@@ -12,13 +12,13 @@ ghost use Rattle.quoted.specs.declared.turns.End.the-variants.{Refused};
 ghost use Rattle.quoted.specs.declared.turns.Turned.the-variants.{Ends, Goes};
 ghost use Rattle.quoted.specs.Modes.{line-number, owed};
 ghost use Rattle.quoted.specs.Texts.{inner, ordinary, quote-by, special, words};
-ghost use Rattle.quoted.specs.Written.{Sound, TextAt, Turns, blank-turned, break-turned, number-of, quote-of, text-turn};
+ghost use Rattle.quoted.specs.Advance.{Advances, Sound, TextAt, blank-turned, break-turned, number-of, quote-of, swept, text-turn};
 use crate::fold::Mode;
 use crate::fold::after_blank;
 use crate::fold::after_break;
 use crate::fold::is_broken;
 use crate::fold::is_checked;
-use crate::fold::put_fold;
+use crate::fold::put_kept;
 use chars::class::is_blank;
 use chars::class::is_break;
 use chars::mark::Place;
@@ -26,6 +26,7 @@ use chars::mark::break_length;
 use chars::mark::is_marker;
 use escapes::answer::Escape;
 use escapes::escape::escape;
+use reading::clear;
 use rooms::copy;
 use rooms::put;
 use rooms::put_char;
@@ -43,7 +44,7 @@ pub struct Quote {
 }
 
 // The state of the reading: where, what came before, how many bytes of text so far.
-pub struct Turn {
+pub struct Progress {
     pub place: Place,
     pub mode: Mode,
     pub count: usize,
@@ -51,29 +52,31 @@ pub struct Turn {
 
 // The place behind the closing quote and the bytes of the text, or a refusal.
 pub enum End {
-    Closed(Place, usize),
+    Closed { place: Place, count: usize },
     Refused(Refusal),
 }
 
 // A turn leads to the next one, or to the scalar's end.
 pub enum Turned {
-    Goes(Turn),
+    Goes(Progress),
     Ends(End),
 }
 
 fn goes(p: Place, mode: Mode, n: usize) -> Turned
     ensures { λ r. ⌜ r ≡ Goes (record { place = p; mode = mode; count = n }) ⌝ }
 {
-    Turned::Goes(Turn {
+    Turned::Goes(Progress {
         place: p,
         mode: mode,
         count: n,
     })
 }
 
-fn wrong(number: u32, mark: Mark) -> Turned
-    ensures { λ r. ⌜ r ≡ Ends (Refused (record { number = number; mark = mark })) ⌝ }
+// A refusal, which leaves the lent bytes all zero.
+fn wrong(number: u32, mark: Mark, out: &mut [u8]) -> Turned
+    ensures { λ r. ⌜ (r ≡ Ends (Refused (record { number = number; mark = mark }))) × (now (out .exit) ≡ replicate (length (now (out .entry))) 0) ⌝ }
 {
+    clear(out);
     Turned::Ends(End::Refused(Refusal {
         number: number,
         mark: mark,
@@ -81,21 +84,21 @@ fn wrong(number: u32, mark: Mark) -> Turned
 }
 
 // Over the blank c. 36: a tab as indentation, after a break.
-fn on_blank(q: Quote, t: Turn, c: u32) -> Turned
+fn on_blank(q: Quote, t: Progress, c: u32, out: &mut [u8]) -> Turned
     requires { ⌜ Small (t .place) ⌝ }
-    ensures { λ r. ⌜ r ≡ blank-turned q t c ⌝ }
+    ensures { λ r. ⌜ (r ≡ blank-turned q t c) × (now (out .exit) ≡ swept (now (out .entry)) r) ⌝ }
 {
     let p = t.place;
     let m = p.mark;
     let mode = t.mode;
     if is_broken(mode) & (c == 9) & (m.col + 1 < q.indent) {
-        return wrong(36, m);
+        return wrong(36, m, out);
     }
     goes(p.skip_blank(), after_blank(mode, p.at), t.count)
 }
 
 // Over the break here.
-fn on_break(text: &[u8], t: Turn) -> Turned
+fn on_break(text: &[u8], t: Progress) -> Turned
     requires { ⌜ Small (t .place) × (owed 0 (t .mode) < 2 ^ 31) ⌝ }
     ensures { λ r. ⌜ r ≡ break-turned (break-length (chars (drop (t .place .at) (now (text .entry))))) t ⌝ }
 {
@@ -112,36 +115,39 @@ fn on_break(text: &[u8], t: Turn) -> Turned
 fn quote_char(single: bool) -> u8
     ensures { λ r. ⌜ r ≡ quote-by single ⌝ }
 {
-    if single { 39 } else { 34 }
+    if single { b'\'' } else { b'"' }
 }
 
 // A quote: a single one that stands twice is text.
 fn on_quote(text: &[u8], q: Quote, p: Place, n: usize, out: &mut [u8]) -> Turned
     requires { ⌜ Sound (now text) (text-turn p n) × CharAt (now text) (p .at) (quote-by (q .single)) 1 ⌝ }
-    ensures { λ r. ⌜ Turns (now (text .entry)) q (now (out .entry)) (now (out .exit)) (text-turn p n) r ⌝ }
+    ensures { λ r. ⌜ Advances (now (text .entry)) q (now (out .entry)) (now (out .exit)) (text-turn p n) r ⌝ }
 {
     let at = p.at;
-    if q.single & (byte(text, at + 1) == 39) {
-        put(out, n, 39);
+    if q.single & (byte(text, at + 1) == b'\'') {
+        put(out, n, b'\'');
         return goes(p.skip_n_non_blank(2), Mode::Chars, n + 1);
     }
-    Turned::Ends(End::Closed(p.skip_blank(), n))
+    Turned::Ends(End::Closed {
+        place: p.skip_blank(),
+        count: n,
+    })
 }
 
-// 37 to 39.
+// 37 to 39; 0: it is no refusal.
 fn refusal_number(e: Escape) -> u32
     ensures { λ r. ⌜ r ≡ number-of e ⌝ }
 {
-    match e {
-        Escape::One(_, _) => 0,
-        Escape::Refused(r) => r.number,
-    }
+    let Escape::Refused(r) = e else {
+        return 0;
+    };
+    r.number
 }
 
 // A backslash: an escaped break, or an escape.
 fn on_backslash(text: &[u8], q: Quote, p: Place, n: usize, out: &mut [u8]) -> Turned
     requires { ⌜ Sound (now text) (text-turn p n) × CharAt (now text) (p .at) 92 1 × (q .single ≡ false) ⌝ }
-    ensures { λ r. ⌜ Turns (now (text .entry)) q (now (out .entry)) (now (out .exit)) (text-turn p n) r ⌝ }
+    ensures { λ r. ⌜ Advances (now (text .entry)) q (now (out .entry)) (now (out .exit)) (text-turn p n) r ⌝ }
 {
     let at = p.at;
     let k = break_length(text, at + 1);
@@ -152,7 +158,7 @@ fn on_backslash(text: &[u8], q: Quote, p: Place, n: usize, out: &mut [u8]) -> Tu
     let start = q.start;
     let e = escape(text, p, start);
     let Escape::One(c, next) = e else {
-        return wrong(refusal_number(e), start);
+        return wrong(refusal_number(e), start, out);
     };
     let m = put_char(out, n, c);
     goes(next, Mode::Chars, m)
@@ -162,7 +168,7 @@ fn on_backslash(text: &[u8], q: Quote, p: Place, n: usize, out: &mut [u8]) -> Tu
 fn is_ordinary(b: u8) -> bool
     ensures { λ r. ⌜ r ≡ ordinary b ⌝ }
 {
-    (40 <= b) & (b <= 91) | (93 <= b) & (b <= 127)
+    (b'(' <= b) & (b <= b'[') | (b']' <= b) & (b <= 127)
 }
 
 // Whether a run of text ends at the character c.
@@ -177,7 +183,7 @@ fn is_inner(text: &[u8], at: usize, b: u8, spaces: bool) -> bool
     requires { ⌜ at ≤ length (now text) ⌝ }
     ensures { λ r. ⌜ r ≡ inner spaces b (getD (now (text .entry)) (at + 1) 0) ⌝ }
 {
-    if spaces & (b == 32) {
+    if spaces & (b == b' ') {
         return is_ordinary(byte(text, at + 1));
     }
     false
@@ -212,14 +218,14 @@ fn text_end(text: &[u8], start: Place, single: bool, spaces: bool) -> Place
 // A character of the text that nothing is kept back before.
 fn on_char(text: &[u8], q: Quote, p: Place, n: usize, out: &mut [u8]) -> Turned
     requires { ⌜ Sound (now text) (text-turn p n) × TextAt (now text) (p .at) ⌝ }
-    ensures { λ r. ⌜ Turns (now (text .entry)) q (now (out .entry)) (now (out .exit)) (text-turn p n) r ⌝ }
+    ensures { λ r. ⌜ Advances (now (text .entry)) q (now (out .entry)) (now (out .exit)) (text-turn p n) r ⌝ }
 {
     let at = p.at;
     let c = byte(text, at);
     if c == quote_char(q.single) {
         return on_quote(text, q, p, n, out);
     }
-    if (c == 92) & !q.single {
+    if (c == b'\\') & !q.single {
         return on_backslash(text, q, p, n, out);
     }
     // Blanks are held against the indent: not below it, a space in a line of text is text.
@@ -247,9 +253,9 @@ fn line_refusal(text: &[u8], q: Quote, p: Place, mode: Mode) -> u32
 }
 
 // A character of the text.
-fn on_text(text: &[u8], q: Quote, t: Turn, out: &mut [u8]) -> Turned
+fn on_text(text: &[u8], q: Quote, t: Progress, out: &mut [u8]) -> Turned
     requires { ⌜ Sound (now text) t × TextAt (now text) (t .place .at) ⌝ }
-    ensures { λ r. ⌜ Turns (now (text .entry)) q (now (out .entry)) (now (out .exit)) t r ⌝ }
+    ensures { λ r. ⌜ Advances (now (text .entry)) q (now (out .entry)) (now (out .exit)) t r ⌝ }
 {
     let p = t.place;
     let at = p.at;
@@ -257,26 +263,26 @@ fn on_text(text: &[u8], q: Quote, t: Turn, out: &mut [u8]) -> Turned
     let k = line_refusal(text, q, p, mode);
     if k != 0 {
         let start = q.start;
-        return wrong(k, start);
+        return wrong(k, start, out);
     }
-    let n = put_fold(text, at, mode, t.count, out);
+    let n = put_kept(text, at, mode, t.count, out);
     on_char(text, q, p, n, out)
 }
 
 // One turn. 34: the end.
-pub fn quoted_turn(text: &[u8], q: Quote, t: Turn, out: &mut [u8]) -> Turned
+pub fn quoted_turn(text: &[u8], q: Quote, t: Progress, out: &mut [u8]) -> Turned
     requires { ⌜ Sound (now text) t ⌝ }
-    ensures { λ r. ⌜ Turns (now (text .entry)) q (now (out .entry)) (now (out .exit)) t r ⌝ }
+    ensures { λ r. ⌜ Advances (now (text .entry)) q (now (out .entry)) (now (out .exit)) t r ⌝ }
 {
     let p = t.place;
     let at = p.at;
     let d = char_at(text, at);
     let Decoded::Char { code, len: _ } = d else {
         let start = q.start;
-        return wrong(34, start);
+        return wrong(34, start, out);
     };
     if is_blank(code) {
-        return on_blank(q, t, code);
+        return on_blank(q, t, code, out);
     }
     if is_break(code) {
         return on_break(text, t);

@@ -45,6 +45,9 @@ pub clears-got : {r : Reading} {l : Lexeme} (before : List ℕ) → r ≡ readin
 unfolding cleared
 clears-got before e = record { same = refl; bytes = rw e }
 
-pub clears-refused : {r : Reading} {f : Refusal} {before after : List ℕ} → r ≡ reading.Refused f → after ≡ room.cleared before 0 → Clears before after r r
+pub all-clear : {after : List ℕ} (before : List ℕ) → after ≡ room.cleared before 0 → after ≡ replicate (length before) 0
+all-clear before g = let l : length before - 0 ≡ length before = omega arith in g ∙ rw l
+
+pub clears-refused : {r : Reading} {f : Refusal} {before after : List ℕ} → r ≡ reading.Refused f → after ≡ replicate (length before) 0 → Clears before after r r
 unfolding cleared
-clears-refused {before = before} e g = let l : length before - 0 ≡ length before = omega arith in record { same = refl; bytes = g ∙ rw (e, l) }
+clears-refused e g = record { same = refl; bytes = g ∙ rw e }

@@ -1,3 +1,4 @@
 pub mod Reading
 pub mod Scalars
-pub mod Drafts
+pub mod Answers
+pub mod Puts

@@ -12,7 +12,7 @@ use Rattle.yaml_lexeme.specs.declared.Token.{Token}
 use Rattle.yaml_lexeme.specs.declared.Kind.{Kind}
 use Rattle.yaml_lexeme.specs.declared.Kind.the-variants as kind
 use Rattle.yaml_lexeme.specs.Token as tokens
-use Rattle.yaml_lexeme.specs.Held.{laid-token}
+use Rattle.yaml_lexeme.specs.Record.{laid-token}
 use Rattle.chars.specs.declared.mark.Place.{Place}
 use Rattle.chars.specs.View.{Stands, view}
 use Rattle.reading.specs.declared.Lexeme.{Lexeme}

@@ -11,7 +11,7 @@ use Rattle.yaml_text.specs.Refusal.{got}
 use Rattle.yaml_text.specs.Utf8.{encode}
 use Rattle.yaml_lexeme.specs.declared.Kind.the-variants as kind
 use Rattle.yaml_lexeme.specs.declared.Style.{Style}
-use Rattle.yaml_lexeme.specs.Held.{laid}
+use Rattle.yaml_lexeme.specs.Record.{laid}
 use Rattle.yaml_lexeme.specs.Token.{Scalar, kind-bytes, lexeme}
 use Rattle.chars.specs.declared.mark.Place.{Place}
 use Rattle.chars.specs.View.{Stands, view}

@@ -1,8 +1,10 @@
 // What a lexeme reader answers: a token with the place behind it, or a refusal.
-ghost use Prim.Native.Nat.{_%_, _+_, _^_, _<_};
+ghost use Prim.Native.Nat.{_%_, _+_, _^_, _<_, suc};
 ghost use mathlib.Core.Path.{_≡_};
-ghost use lib.ListN.{replicate};
+ghost use lib.ListN.{length, replicate};
 ghost use lib.Seq.{sets};
+ghost use Rattle.yaml_lexeme.specs.Fold.{fold};
+ghost use Rattle.reading.specs.Puts.{Puts};
 ghost use Rattle.reading.specs.Reading.{Clears};
 ghost use Rattle.reading.specs.declared.Reached.the-variants as reached;
 ghost use Rattle.reading.specs.declared.Reading.the-variants as reading;
@@ -68,8 +70,31 @@ pub fn text_at(used: u32, n: usize) -> Text
 {
     Text {
         at: used,
-        len: rooms::word(n),
+        len: rooms::as_word(n),
     }
+}
+
+// Zeros in all lent bytes.
+pub fn clear(out: &mut [u8])
+    ensures { λ _. ⌜ now (out .exit) ≡ replicate (length (now (out .entry))) 0 ⌝ }
+{
+    rooms::clear_from(out, 0);
+}
+
+// A refusal, which leaves the lent bytes all zero.
+pub fn pass_on(f: Refusal, out: &mut [u8]) -> Reading
+    ensures { λ r. ⌜ (r ≡ reading.Refused f) × (now (out .exit) ≡ replicate (length (now (out .entry))) 0) ⌝ }
+{
+    clear(out);
+    Reading::Refused(f)
+}
+
+// The same by its number.
+pub fn refuse_out(number: u32, mark: Mark, out: &mut [u8]) -> Reading
+    ensures { λ r. ⌜ (r ≡ reading.Refused (record { number = number; mark = mark })) × (now (out .exit) ≡ replicate (length (now (out .entry))) 0) ⌝ }
+{
+    clear(out);
+    refuse(number, mark)
 }
 
 // A refusal leaves the lent bytes all zero.
@@ -77,7 +102,7 @@ pub fn clear_refused(r: Reading, out: &mut [u8]) -> Reading
     ensures { λ e. ⌜ Clears (now (out .entry)) (now (out .exit)) r e ⌝ }
 {
     let Reading::Got(_) = r else {
-        rooms::clear_from(out, 0);
+        clear(out);
         return r;
     };
     r
@@ -91,9 +116,21 @@ pub fn put_breaks(out: &mut [u8], n: usize, k: u32) -> usize
     let mut i = 0;
     let mut e = n;
     while i < k {
-        rooms::put(out, e, 10);
+        rooms::put(out, e, b'\n');
         e += 1;
         i += 1;
     }
     e
+}
+
+// Stores what a break and k more become where lines are folded, from n on; where the next byte goes.
+pub fn put_fold(out: &mut [u8], n: usize, k: u32) -> usize
+    requires { ⌜ n < 2 ^ 62 ⌝ }
+    ensures { λ r. ⌜ Puts (now (out .entry)) n (now (out .exit)) r (fold (suc k)) ⌝ }
+{
+    if k == 0 {
+        rooms::put(out, n, b' ');
+        return n + 1;
+    }
+    put_breaks(out, n, k)
 }

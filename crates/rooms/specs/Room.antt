@@ -6,7 +6,7 @@ use native.Mathlib.Numerals.{add-one}
 use native.Mathlib.Omega.{arith}
 use lib.Dec.{ltb}
 use lib.ListN.{drop, drop-of-length-le, getD, length, length-drop, length-set, replicate, set, take, take-append-drop}
-use lib.Seq.{drop-cons, length-take-le, set-out, sets, take-all, take-set-le, take-suc-set}
+use lib.Seq.{drop-cons, length-sets, length-take-le, set-out, sets, take-all, take-set-le, take-suc-set}
 use borrow.Author.Tests.{ltb-false, ltb-true}
 use Rattle.yaml_text.specs.Test.{by-test}
 
@@ -71,6 +71,10 @@ sets-snoc l n a t e f = f ∙ rw e (sets-join t (a ∷ []) l n)
 -- zeros from n on
 abbrev pub cleared : List ℕ → ℕ → List ℕ
 cleared l n = take n l ++ replicate (length l - n) 0
+
+-- stores from n on are cleared with the rest
+pub cleared-sets : (t l : List ℕ) (n k : ℕ) → n ≤ k → cleared (sets l k t) n ≡ cleared l n
+cleared-sets t l n k h = rw (take-sets t l n k h, length-sets l k t)
 
 -- a loop that clears a room from n on, with i next: what is left gives the whole
 pub record Clearing (before : List ℕ) (n : ℕ) (out : List ℕ) (i : ℕ) : Type 0 where

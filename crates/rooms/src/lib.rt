@@ -3,11 +3,11 @@ ghost use mathlib.Core.Path.{_≡_};
 ghost use Prim.Native.Nat.{_%_, _+_, _-_, _^_, _<_};
 ghost use lib.ListN.{length, set};
 ghost use lib.Seq.{sets};
-ghost use Rattle.yaml_text.specs.Utf8.{bytesOf};
+ghost use Rattle.yaml_text.specs.Utf8.{char-bytes};
 ghost use Rattle.rooms.specs.Room.{cleared};
 
 // A count as a word of a record.
-pub fn word(n: usize) -> u32
+pub fn as_word(n: usize) -> u32
     ensures { λ r. ⌜ r ≡ n % 2 ^ 32 ⌝ }
 {
     (n % 4294967296) as u32
@@ -58,7 +58,7 @@ fn put_tail(out: &mut [u8], n: usize, v: u32)
 // Stores the bytes of a character from n on; where the next one goes.
 pub fn put_char(out: &mut [u8], n: usize, c: u32) -> usize
     requires { ⌜ (n < 2 ^ 62) × (c < 0x110000) ⌝ }
-    ensures { λ r. ⌜ (now (out .exit) ≡ sets (now (out .entry)) n (bytesOf c)) × (r ≡ n + length (bytesOf c)) ⌝ }
+    ensures { λ r. ⌜ (now (out .exit) ≡ sets (now (out .entry)) n (char-bytes c)) × (r ≡ n + length (char-bytes c)) ⌝ }
 {
     if c < 0x80 {
         put(out, n, c as u8);

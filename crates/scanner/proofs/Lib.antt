@@ -1,4 +1,3 @@
-pub mod Tell
-pub mod Token
-pub mod Go
+pub mod Going
+pub mod Taken
 pub mod Filled

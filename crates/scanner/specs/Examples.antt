@@ -5,13 +5,13 @@ use mathlib.Core.List.{List}
 use mathlib.Core.Path.{_∙_, _≡_, fun-ext, subst, sym}
 use lib.ListN.{length}
 use Rattle.yaml_scan.specs.Scan.{standard}
-use Rattle.yaml_scan.specs.Examples.{Examples}
+use Rattle.yaml_scan.specs.Examples.{Examples, twelve-records}
 use Rattle.yaml_scan.specs.Examples as definition
 use Rattle.scanner.specs.declared.Answer.{Answer}
 use Rattle.scanner.specs.Promise.{Answers, answer-of}
 
 module _ (words₀ bytes₀ words bytes : List ℕ → List ℕ) (r : List ℕ → Answer)
-    (room : (text : List ℕ) → (length (words₀ text) ≡ 144) × (length (bytes₀ text) ≡ 16))
+    (room : (text : List ℕ) → (length (words₀ text) ≡ twelve-records) × (length (bytes₀ text) ≡ 16))
     (kept : (text : List ℕ) → Answers standard text (words₀ text) (bytes₀ text) (words text) (bytes text) (r text)) where
   pub examples : Examples (λ text. answer-of (r text) (words text) (bytes text))
   examples = subst Examples (sym (fun-ext (λ text. kept text ∙ rw (room text .0, room text .1)))) definition.examples

@@ -5,14 +5,16 @@ ghost use mathlib.Core.Path.{_≡_};
 ghost use lib.ListN.{length};
 ghost use Rattle.yaml_text.specs.Mark.{origin};
 ghost use Rattle.yaml_scan.specs.Scan.{blank-answer, outcome, refusal, standard};
-ghost use Rattle.scanner.specs.Promise.{Answers, Modest, Settles, answer-of, lent-of};
-ghost use Rattle.scanner.specs.Run.{Comes, none};
+ghost use Rattle.sink.specs.Stored.{no-counts};
+ghost use Rattle.scanner.specs.Promise.{Answers, Modest, Settles, answer-of, at-most, capped, lent-of};
+ghost use Rattle.scanner.specs.Run.{RunComes};
 use crate::run::Outcome;
 use crate::run::run;
+use events::Counts;
+use records::RECORD_WORDS;
 use rooms::clear_from;
 use rooms::clear_words_from;
 use sink::settle;
-use states::Counts;
 use validity::Checked;
 use validity::check_text;
 use yaml_scan::Limits;
@@ -44,7 +46,7 @@ fn outside(number: u32) -> Refusal
 // 1; then 2 or 3; then the run.
 fn outcome(limits: Limits, text: &[u8], words: &mut [u32], bytes: &mut [u8]) -> Outcome
     requires { ⌜ Modest limits ⌝ }
-    ensures { λ r. ⌜ Comes (outcome limits (now (text .entry))) none (now (words .entry)) (now (bytes .entry)) (now (words .exit)) (now (bytes .exit)) r ⌝ }
+    ensures { λ r. ⌜ RunComes (outcome limits (now (text .entry))) no-counts (now (words .entry)) (now (bytes .entry)) (now (words .exit)) (now (bytes .exit)) r ⌝ }
 {
     if limits.bytes < text.len() {
         return Outcome::Stopped(outside(1));
@@ -72,20 +74,20 @@ fn lent(n: Counts, words: &mut [u32], bytes: &mut [u8]) -> Answer
 {
     let t = n.count + n.put_in;
     let d = n.used;
-    if words.len() / 12 < t as usize {
+    if words.len() / RECORD_WORDS < t as usize {
         return refused(outside(4), t, d, words, bytes);
     }
     if bytes.len() < d as usize {
         return refused(outside(5), t, d, words, bytes);
     }
     settle(words, n.count, t);
-    clear_words_from(words, t as usize * 12);
+    clear_words_from(words, t as usize * RECORD_WORDS);
     clear_from(bytes, d as usize);
     Answer::Accepted(t, d)
 }
 
-// Tokens and decoded text of a text, in lent words and bytes, within limits that are at most 01's.
-pub fn scan_with(limits: Limits, text: &[u8], words: &mut [u32], bytes: &mut [u8]) -> Answer
+// Within limits that are at most 01's.
+fn scan_within(limits: Limits, text: &[u8], words: &mut [u32], bytes: &mut [u8]) -> Answer
     requires { ⌜ Modest limits ⌝ }
     ensures { λ r. ⌜ Answers limits (now (text .entry)) (now (words .entry)) (now (bytes .entry)) (now (words .exit)) (now (bytes .exit)) r ⌝ }
 {
@@ -96,14 +98,48 @@ pub fn scan_with(limits: Limits, text: &[u8], words: &mut [u32], bytes: &mut [u8
     }
 }
 
+// 01's limits.
+fn standard() -> Limits
+    ensures { λ r. ⌜ r ≡ standard ⌝ }
+{
+    Limits {
+        bytes: 1_048_576,
+        levels: 255,
+        entries: 255,
+    }
+}
+
+fn at_most(most: usize, n: usize) -> usize
+    ensures { λ r. ⌜ r ≡ at-most most n ⌝ }
+{
+    if most < n {
+        return most;
+    }
+    n
+}
+
+// A limit above 01's counts as 01's.
+fn capped(limits: Limits) -> Limits
+    ensures { λ r. ⌜ r ≡ capped limits ⌝ }
+{
+    let most = standard();
+    Limits {
+        bytes: at_most(most.bytes, limits.bytes),
+        levels: at_most(most.levels, limits.levels),
+        entries: at_most(most.entries, limits.entries),
+    }
+}
+
+// Tokens and decoded text of a text, in lent words and bytes, within these limits and 01's.
+pub fn scan_with(limits: Limits, text: &[u8], words: &mut [u32], bytes: &mut [u8]) -> Answer
+    ensures { λ r. ⌜ Answers (capped limits) (now (text .entry)) (now (words .entry)) (now (bytes .entry)) (now (words .exit)) (now (bytes .exit)) r ⌝ }
+{
+    scan_within(capped(limits), text, words, bytes)
+}
+
 // The same within 01's limits.
 pub fn scan(text: &[u8], words: &mut [u32], bytes: &mut [u8]) -> Answer
     ensures { λ r. ⌜ Answers standard (now (text .entry)) (now (words .entry)) (now (bytes .entry)) (now (words .exit)) (now (bytes .exit)) r ⌝ }
 {
-    let limits = Limits {
-        bytes: 1_048_576,
-        levels: 255,
-        entries: 255,
-    };
-    scan_with(limits, text, words, bytes)
+    scan_within(standard(), text, words, bytes)
 }

@@ -8,24 +8,27 @@ ghost use Rattle.yaml_text.specs.Utf8.{chars};
 ghost use Rattle.yaml_scan.specs.Choice.{choice};
 ghost use Rattle.yaml_scan.specs.Scan.{run, scan, step};
 ghost use Rattle.chars.specs.View.{view};
-ghost use Rattle.choices.specs.Choice.{Says};
+ghost use Rattle.choices.specs.Choice.{AsDefined};
 ghost use Rattle.states.specs.State.{state-of};
+ghost use Rattle.sink.specs.Stored.{counts-ending, no-counts};
 ghost use Rattle.steps.specs.Step.{is-brief};
+ghost use Rattle.storing.specs.Step.{StepGiven};
 ghost use Rattle.scanner.specs.Promise.{Modest};
-ghost use Rattle.scanner.specs.Run.{Comes, Fine, Takes, Turns, ending, none};
+ghost use Rattle.scanner.specs.Run.{RunComes, StepDone, token-news};
 use choices::advance::Advanced;
 use choices::advance::to_next_token;
 use choices::choice::choice;
-use news::Opening;
+use events::Counts;
+use events::Opening;
+use events::brief_event;
 use sink::put_brief;
 use sink::put_entry;
 use sink::put_news;
 use sink::put_record;
+use stacks::STACK_WORDS;
 use states::Brief;
-use states::Counts;
 use states::Fetched;
 use states::State;
-use states::brief_event;
 use steps::fetch_brief;
 use steps::fetch_other;
 use steps::is_brief;
@@ -35,21 +38,22 @@ use yaml_scan::Choice;
 use yaml_scan::Limits;
 use yaml_text::Refusal;
 
-pub enum Outcome {
+// What a run comes to.
+pub(crate) enum Outcome {
     Scanned(Counts),
     Stopped(Refusal),
 }
 
 // Behind a step: the next one from there, or what the run comes to.
-enum Turn {
-    On(State, Counts),
+enum Stepped {
+    On { state: State, counts: Counts },
     Over(Outcome),
 }
 
 // The counts behind so many ends of blocks.
 fn ending(n: Counts, ended: u32) -> Counts
     requires { ⌜ n .count + ended < 2 ^ 32 ⌝ }
-    ensures { λ r. ⌜ r ≡ ending n ended ⌝ }
+    ensures { λ r. ⌜ r ≡ counts-ending n ended ⌝ }
 {
     Counts {
         count: n.count + ended,
@@ -59,63 +63,65 @@ fn ending(n: Counts, ended: u32) -> Counts
 }
 
 // One token that is brief, before which so many blocks ended.
-fn brief(
+fn brief_token(
     limits: Limits,
     text: &[u8],
     c: Choice,
     s: State,
     ended: u32,
     n: Counts,
-    entries: &mut [u32],
-    frames: &mut [u32],
+    stacks: &mut [u32],
     words: &mut [u32],
     bytes: &mut [u8],
-) -> Turn
-    requires { ⌜ Fine limits (now text) (now entries) (now frames) s n × (ended ≤ 255) × Says (now text) s (λ t. choice t) c × (is-brief c ≡ true) ⌝ }
-    ensures { λ r. ⌜ Takes limits (now (text .entry)) (now (entries .entry)) (now (frames .entry)) (now (entries .exit)) (now (frames .exit)) s ended n (now (words .entry)) (now (bytes .entry)) (now (words .exit)) (now (bytes .exit)) r ⌝ }
+) -> Stepped
+    requires { ⌜ StepGiven limits (now text) (now stacks) s n × (ended ≤ 255) × AsDefined (now text) s (λ t. choice t) c × (is-brief c ≡ true) ⌝ }
+    ensures { λ r. ⌜ StepDone limits (now (text .entry)) (now (stacks .exit)) (token-news limits (now (text .entry)) (now (stacks .entry)) s ended n) n (now (words .entry)) (now (bytes .entry)) (now (words .exit)) (now (bytes .exit)) r ⌝ }
 {
     let k = ending(n, ended);
-    let r = fetch_brief(limits, text, c, s, k, entries, frames, bytes);
+    let r = fetch_brief(limits, text, c, s, k, stacks, bytes);
     match r {
-        Brief::Refused(f) => Turn::Over(Outcome::Stopped(f)),
-        Brief::Goes(t, pair, token) => {
+        Brief::Refused(f) => Stepped::Over(Outcome::Stopped(f)),
+        Brief::Goes { state, pair, token } => {
             put_brief(words, n.count, s.place.mark, ended, pair, token);
-            Turn::On(
-                t,
-                k.counting(brief_event(pair, Opening::FlowMappingEnd, token)),
-            )
+            Stepped::On {
+                state: state,
+                counts: k.counting(brief_event(pair, Opening::FlowMappingEnd, token)),
+            }
         }
-        Brief::Enters(t, starts, token) => {
+        Brief::Enters {
+            state,
+            starts,
+            token,
+        } => {
             put_entry(words, n.count, s.place.mark, ended, starts, token);
-            Turn::On(
-                t,
-                k.counting(brief_event(starts, Opening::BlockSequenceStart, token)),
-            )
+            Stepped::On {
+                state: state,
+                counts: k.counting(brief_event(starts, Opening::BlockSequenceStart, token)),
+            }
         }
     }
 }
 
 // One token that is not.
-fn lexeme(
+fn other_token(
     limits: Limits,
     text: &[u8],
     c: Choice,
     s: State,
     ended: u32,
     n: Counts,
-    entries: &mut [u32],
-    frames: &mut [u32],
+    stacks: &mut [u32],
     words: &mut [u32],
     bytes: &mut [u8],
-) -> Turn
-    requires { ⌜ Fine limits (now text) (now entries) (now frames) s n × (ended ≤ 255) × Says (now text) s (λ t. choice t) c × (is-brief c ≡ false) ⌝ }
-    ensures { λ r. ⌜ Takes limits (now (text .entry)) (now (entries .entry)) (now (frames .entry)) (now (entries .exit)) (now (frames .exit)) s ended n (now (words .entry)) (now (bytes .entry)) (now (words .exit)) (now (bytes .exit)) r ⌝ }
+) -> Stepped
+    requires { ⌜ StepGiven limits (now text) (now stacks) s n × (ended ≤ 255) × AsDefined (now text) s (λ t. choice t) c × (is-brief c ≡ false) ⌝ }
+    ensures { λ r. ⌜ StepDone limits (now (text .entry)) (now (stacks .exit)) (token-news limits (now (text .entry)) (now (stacks .entry)) s ended n) n (now (words .entry)) (now (bytes .entry)) (now (words .exit)) (now (bytes .exit)) r ⌝ }
 {
     let k = ending(n, ended);
-    let r = fetch_other(limits, text, c, s, k, entries, frames, bytes);
+    let r = fetch_other(limits, text, c, s, k, stacks, bytes);
     let e = match r {
         Fetched::Refused(f) => {
-            return Turn::Over(Outcome::Stopped(f));
+            return Stepped::Over(Outcome::Stopped(f));
         }
         Fetched::Ends(e) => e,
         Fetched::Goes(e, _) => e,
@@ -123,18 +129,24 @@ fn lexeme(
     put_news(words, n.count, s.place.mark, ended, e);
     let m = k.counting(e);
     match r {
-        Fetched::Goes(_, t) => Turn::On(t, m),
-        _ => Turn::Over(Outcome::Scanned(m)),
+        Fetched::Goes(_, t) => Stepped::On {
+            state: t,
+            counts: m,
+        },
+        _ => Stepped::Over(Outcome::Scanned(m)),
     }
 }
 
-// The same turn, put together anew: else the call writes it to the caller's own, and brief tokens go through memory too.
-fn apart(r: Turn) -> Turn
+// The same answer, put together anew: else the call writes it to the caller's own, and brief tokens go through memory too.
+fn apart(r: Stepped) -> Stepped
     ensures { λ e. ⌜ e ≡ r ⌝ }
 {
     match r {
-        Turn::On(t, m) => Turn::On(t.anew(), m),
-        Turn::Over(o) => Turn::Over(o),
+        Stepped::On { state, counts } => Stepped::On {
+            state: state.anew(),
+            counts: counts,
+        },
+        Stepped::Over(o) => Stepped::Over(o),
     }
 }
 
@@ -145,90 +157,75 @@ fn token(
     s: State,
     ended: u32,
     n: Counts,
-    entries: &mut [u32],
-    frames: &mut [u32],
+    stacks: &mut [u32],
     words: &mut [u32],
     bytes: &mut [u8],
-) -> Turn
-    requires { ⌜ Fine limits (now text) (now entries) (now frames) s n × (ended ≤ 255) ⌝ }
-    ensures { λ r. ⌜ Takes limits (now (text .entry)) (now (entries .entry)) (now (frames .entry)) (now (entries .exit)) (now (frames .exit)) s ended n (now (words .entry)) (now (bytes .entry)) (now (words .exit)) (now (bytes .exit)) r ⌝ }
+) -> Stepped
+    requires { ⌜ StepGiven limits (now text) (now stacks) s n × (ended ≤ 255) ⌝ }
+    ensures { λ r. ⌜ StepDone limits (now (text .entry)) (now (stacks .exit)) (token-news limits (now (text .entry)) (now (stacks .entry)) s ended n) n (now (words .entry)) (now (bytes .entry)) (now (words .exit)) (now (bytes .exit)) r ⌝ }
 {
     let c = choice(text, s);
     if is_brief(c) {
-        return brief(
-            limits,
-            text,
-            c,
-            s.anew(),
-            ended,
-            n,
-            entries,
-            frames,
-            words,
-            bytes,
-        );
+        return brief_token(limits, text, c, s.anew(), ended, n, stacks, words, bytes);
     }
-    apart(lexeme(limits, text, c, s, ended, n, entries, frames, words, bytes))
+    apart(other_token(limits, text, c, s, ended, n, stacks, words, bytes))
 }
 
 // The step from the state s.
-fn step(
+fn one_step(
     limits: Limits,
     text: &[u8],
     s: State,
     n: Counts,
-    entries: &mut [u32],
-    frames: &mut [u32],
+    stacks: &mut [u32],
     words: &mut [u32],
     bytes: &mut [u8],
-) -> Turn
-    requires { ⌜ Fine limits (now text) (now entries) (now frames) s n ⌝ }
-    ensures { λ r. ⌜ Turns limits (now (text .entry)) (now (entries .exit)) (now (frames .exit)) (step limits (state-of (now (text .entry)) (now (entries .entry)) (now (frames .entry)) (n .count) s)) n (now (words .entry)) (now (bytes .entry)) (now (words .exit)) (now (bytes .exit)) r ⌝ }
+) -> Stepped
+    requires { ⌜ StepGiven limits (now text) (now stacks) s n ⌝ }
+    ensures { λ r. ⌜ StepDone limits (now (text .entry)) (now (stacks .exit)) (step limits (state-of (now (text .entry)) (now (stacks .entry)) (n .count) s)) n (now (words .entry)) (now (bytes .entry)) (now (words .exit)) (now (bytes .exit)) r ⌝ }
 {
-    let a = to_next_token(text, s, entries, frames);
+    let a = to_next_token(limits, text, s, stacks);
     match a {
-        Advanced::Refused(f) => Turn::Over(Outcome::Stopped(f)),
-        Advanced::To(t, ended) => token(limits, text, t, ended, n, entries, frames, words, bytes),
+        Advanced::Refused(f) => Stepped::Over(Outcome::Stopped(f)),
+        Advanced::To { state, ended } => token(limits, text, state, ended, n, stacks, words, bytes),
     }
 }
 
 // All steps from the state s on.
-fn go(
+fn all_steps(
     limits: Limits,
     text: &[u8],
     s: State,
     n: Counts,
-    entries: &mut [u32],
-    frames: &mut [u32],
+    stacks: &mut [u32],
     words: &mut [u32],
     bytes: &mut [u8],
 ) -> Outcome
-    requires { ⌜ Fine limits (now text) (now entries) (now frames) s n ⌝ }
-    ensures { λ r. ⌜ Comes (run limits (suc (left (view (now (text .entry)) (s .place)))) (state-of (now (text .entry)) (now (entries .entry)) (now (frames .entry)) (n .count) s)) n (now (words .entry)) (now (bytes .entry)) (now (words .exit)) (now (bytes .exit)) r ⌝ }
+    requires { ⌜ StepGiven limits (now text) (now stacks) s n ⌝ }
+    ensures { λ r. ⌜ RunComes (run limits (suc (left (view (now (text .entry)) (s .place)))) (state-of (now (text .entry)) (now (stacks .entry)) (n .count) s)) n (now (words .entry)) (now (bytes .entry)) (now (words .exit)) (now (bytes .exit)) r ⌝ }
 {
     let mut t = s;
     let mut k = n;
     loop {
-        let r = step(limits, text, t, k, entries, frames, words, bytes);
+        let r = one_step(limits, text, t, k, stacks, words, bytes);
         match r {
-            Turn::Over(o) => {
+            Stepped::Over(o) => {
                 return o;
             }
-            Turn::On(u, m) => {
-                t = u;
-                k = m;
+            Stepped::On { state, counts } => {
+                t = state;
+                k = counts;
             }
         }
     }
 }
 
-// The whole run.
-pub fn run(limits: Limits, text: &[u8], words: &mut [u32], bytes: &mut [u8]) -> Outcome
+// The whole run. At a refusal its caller clears the words and the bytes, so that what they hold then is not said, only that their lengths stay.
+pub(crate) fn run(limits: Limits, text: &[u8], words: &mut [u32], bytes: &mut [u8]) -> Outcome
     requires { ⌜ Modest limits × (length (now text) ≤ 1_048_576) ⌝ }
-    ensures { λ r. ⌜ Comes (scan limits (chars (now (text .entry)))) none (now (words .entry)) (now (bytes .entry)) (now (words .exit)) (now (bytes .exit)) r ⌝ }
+    ensures { λ r. ⌜ RunComes (scan limits (chars (now (text .entry)))) no-counts (now (words .entry)) (now (bytes .entry)) (now (words .exit)) (now (bytes .exit)) r ⌝ }
 {
-    let mut entries = [0u32; 255];
-    let mut frames = [0u32; 1536];
+    let mut stacks = [0u32; STACK_WORDS];
     let n = Counts {
         count: 1,
         put_in: 0,
@@ -242,5 +239,5 @@ pub fn run(limits: Limits, text: &[u8], words: &mut [u32], bytes: &mut [u8]) -> 
         end: m,
     };
     put_record(words, 0, start);
-    go(limits, text, s, n, &mut entries, &mut frames, words, bytes)
+    all_steps(limits, text, s, n, &mut stacks, words, bytes)
 }

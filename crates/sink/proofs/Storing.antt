@@ -5,30 +5,24 @@ use mathlib.Core.List.{List, [], _++_, _∷_}
 use mathlib.Core.Path.{_∙_, _≡_, ap, refl, sym}
 use native.Mathlib.Numerals.{add-one}
 use native.Mathlib.Omega.{arith}
-use lib.ListN.{getD, length, length-replicate}
+use lib.ListN.{length, length-replicate}
 use Rattle.yaml_text.specs.declared.Mark.{Mark}
 use Rattle.yaml_lexeme.specs.declared.Kind.{Kind}
 use Rattle.yaml_lexeme.specs.declared.Kind.the-variants.{BlockEnd}
 use Rattle.yaml_lexeme.specs.declared.Token.{Token}
-use Rattle.yaml_lexeme.specs.Held.{mark-words, record-of, values-of}
-use Rattle.news.specs.declared.Event.{Event}
-use Rattle.news.specs.declared.Note.{Note}
-use Rattle.news.specs.declared.Opening.{Opening}
-use Rattle.news.specs.declared.Opening.the-variants as opening
-use Rattle.states.specs.Brief.{brief-event}
-use Rattle.states.specs.Laid.{opening-if}
-use Rattle.states.specs.Say.{empty-of}
-use Rattle.sink.specs.Tokens.{end-tokens, event-tokens, opening-tokens}
-use Rattle.sink.specs.Kinds.{five, kind-place, number-place}
-use Rattle.sink.specs.Put.{note-at, put-list, put-list-append, put-news, put-record}
+use Rattle.yaml_lexeme.specs.Record.{record-of}
+use Rattle.events.specs.declared.Event.{Event}
+use Rattle.events.specs.declared.Note.{Note}
+use Rattle.events.specs.declared.Opening.{Opening}
+use Rattle.events.specs.declared.Opening.the-variants as opening
+use Rattle.events.specs.Event.{brief-event}
+use Rattle.events.specs.Event.{opening-if}
+use Rattle.events.specs.Event.{empty-of}
+use Rattle.sink.specs.StepTokens.{end-tokens, event-tokens, noted-words, opening-tokens, put-news}
+use Rattle.sink.specs.Store.{put-list, put-list-append, put-record}
 
-pub same-words : (t : Token) (k : ℕ) (v : List ℕ) → k ≡ kind-place (t .kind) → v ≡ five (values-of (t .kind))
-    → k ∷ mark-words (t .start) (mark-words (t .end) (getD v 0 0 ∷ getD v 1 0 ∷ getD v 2 0 ∷ getD v 3 0 ∷ getD v 4 0 ∷ [])) ≡ record-of t
-unfolding record-of
-same-words t k v p q = rw (p, q, number-place)
-
-pub noted : (l : List ℕ) {o : List ℕ} {n k : Note} → o ≡ note-at l k → n ≡ k → o ≡ note-at l n
-noted l e f = e ∙ ap (λ (x : Note). note-at l x) (sym f)
+pub noted : (l : List ℕ) {o : List ℕ} {n k : Note} → o ≡ noted-words l k → n ≡ k → o ≡ noted-words l n
+noted l e f = e ∙ ap (λ (x : Note). noted-words l x) (sym f)
 
 -- BlockEnds one by one: what is left gives the whole
 pub ends-start : (l : List ℕ) (m : Mark) (n k : ℕ) → put-list l n (end-tokens k m) ≡ put-list l n (end-tokens (n + k - n) m)
@@ -81,14 +75,14 @@ event-put e l a b o n k j p q r s t =
     behind-ends (e .closed) m (us ++ (e .token ∷ [])) l a o n k p q (behind us (e .token ∷ []) a b o k j r s t)
 
 pub news-put : (e : Event) (here : Mark) (ended : ℕ) (l a b o : List ℕ) (n k : ℕ) → k ≡ n + ended → a ≡ put-list l n (end-tokens ended here)
-    → b ≡ note-at a (e .note) → o ≡ put-list b k (event-tokens e) → o ≡ put-news l n here ended e
+    → b ≡ noted-words a (e .note) → o ≡ put-list b k (event-tokens e) → o ≡ put-news l n here ended e
 news-put e here ended l a b o n k p q i r = r ∙ rw (i, q, p)
 
 -- a brief event has no note and ends no block
 pub brief-put : (led : Bool) (x : Opening) (t : Token) (here : Mark) (ended : ℕ) (l a b o : List ℕ) (n k j : ℕ) → k ≡ n + ended → a ≡ put-list l n (end-tokens ended here)
     → j ≡ k + length (opening-tokens (opening-if led x) (t .start)) → b ≡ put-list a k (opening-tokens (opening-if led x) (t .start))
     → o ≡ put-record b j (record-of t) → o ≡ put-news l n here ended (brief-event led x t)
-unfolding put-list note-at
+unfolding put-list noted-words
 brief-put led x t here ended l a b o n k j p q r s u =
     let z : k ≡ k + 0 = omega arith in
     news-put (brief-event led x t) here ended l a a o n k p q refl (event-put (brief-event led x t) a a b o k k j z refl r s u)

@@ -1,21 +1,12 @@
--- Records with notes, and the list of records that they stand for.
-use Prim.Native.Nat.{_%_, _*_, _+_, _/_, suc, zero, ℕ}
+-- Records with notes, and the records that they stand for in the end.
+use Prim.Native.Nat.{_*_, _+_, suc, zero, ℕ}
 use mathlib.Core.List.{List, [], _++_, _∷_}
 use lib.Dec.{eqb}
-use lib.ListN.{drop, getD, length, set, take}
+use lib.ListN.{drop, length, take}
 use Rattle.yaml_text.specs.Pick.{pick}
 use Rattle.yaml_lexeme.specs.Token.{BlockMappingStart, FlowMappingStart, Key, Kind}
-use Rattle.yaml_lexeme.specs.Held.{laid, number-of}
-use Rattle.sink.specs.Put.{width}
-
-abbrev pub Rec : Type 0
-Rec = List ℕ
-
-abbrev pub note-in : Rec → ℕ
-note-in r = getD r 0 0 / 32
-
-abbrev pub clean : Rec → Rec
-clean r = set r 0 (getD r 0 0 % 32)
+use Rattle.yaml_lexeme.specs.Record.{laid, number-of, record-words}
+use Rattle.records.specs.Note.{empty-at, note-in, without-note}
 
 unfoldable pub opener : ℕ → Kind
 opener n = pick (eqb n 2) FlowMappingStart BlockMappingStart
@@ -26,15 +17,11 @@ note-kinds zero = []
 note-kinds (suc zero) = Key ∷ []
 note-kinds (suc (suc n)) = opener (suc (suc n)) ∷ Key ∷ []
 
--- a record with an empty span at the start of r
-abbrev pub empty-at : ℕ → Rec → Rec
-empty-at k r = k ∷ getD r 1 0 ∷ getD r 2 0 ∷ getD r 3 0 ∷ getD r 1 0 ∷ getD r 2 0 ∷ getD r 3 0 ∷ 0 ∷ 0 ∷ 0 ∷ 0 ∷ 0 ∷ []
-
 -- word 1 of a kind that has no text
 abbrev pub number : Kind → ℕ
 number k = number-of (laid 0 k)
 
-unfoldable pub empties : List Kind → Rec → List ℕ
+unfoldable pub empties : List Kind → List ℕ → List ℕ
 empties [] r = []
 empties (k ∷ ks) r = empty-at (number k) r ++ empties ks r
 
@@ -42,33 +29,33 @@ empties (k ∷ ks) r = empty-at (number k) r ++ empties ks r
 abbrev pub extra : ℕ → ℕ
 extra n = length (note-kinds n)
 
-abbrev pub before : ℕ → Rec → List ℕ
+abbrev pub before : ℕ → List ℕ → List ℕ
 before n r = empties (note-kinds n) r
 
 -- what stands in the end for a record: those that go in before it, and itself
-abbrev pub block : Rec → List ℕ
-block r = before (note-in r) r ++ clean r
+abbrev pub block : List ℕ → List ℕ
+block r = before (note-in r) r ++ without-note r
 
-abbrev pub count : Rec → ℕ
+abbrev pub count : List ℕ → ℕ
 count r = extra (note-in r) + 1
 
 -- the first n records of the words
-abbrev pub rec-at : ℕ → List ℕ → Rec
-rec-at i l = take width (drop (i * width) l)
+abbrev pub record-at : ℕ → List ℕ → List ℕ
+record-at i l = take record-words (drop (i * record-words) l)
 
-unfoldable pub front : ℕ → List ℕ → List Rec
+unfoldable pub front : ℕ → List ℕ → List (List ℕ)
 front zero l = []
-front (suc i) l = front i l ++ (rec-at i l ∷ [])
+front (suc i) l = front i l ++ (record-at i l ∷ [])
 
 -- how many records they come to, and their words
-unfoldable pub total : List Rec → ℕ
-total [] = 0
-total (r ∷ rs) = count r + total rs
+unfoldable pub total-records : List (List ℕ) → ℕ
+total-records [] = 0
+total-records (r ∷ rs) = count r + total-records rs
 
-unfoldable pub flatten : List Rec → List ℕ
+unfoldable pub flatten : List (List ℕ) → List ℕ
 flatten [] = []
 flatten (r ∷ rs) = block r ++ flatten rs
 
 -- the first n records in their final places, and what stood behind these places
 abbrev pub settled-words : ℕ → List ℕ → List ℕ
-settled-words n l = flatten (front n l) ++ drop (total (front n l) * width) l
+settled-words n l = flatten (front n l) ++ drop (total-records (front n l) * record-words) l

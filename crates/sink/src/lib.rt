@@ -1,37 +1,37 @@
-// The sink: what steps say, as records of 12 words in the lent words.
+// What steps say, as records in slots of the lent words, and the pass that sets them in their final places.
 mod block;
-mod token;
 
-use crate::block::load;
 use crate::block::put_block;
-use crate::block::store;
-use crate::token::W;
-use crate::token::record_of;
-use news::Event;
-use news::Note;
-use news::Opening;
+use events::Event;
+use events::Note;
+use events::Opening;
+use records::RECORD_WORDS;
+use records::load;
+use records::set_note;
+use records::store;
+use records::token::record_of;
 use yaml_lexeme::Kind;
 use yaml_lexeme::Token;
 use yaml_text::Mark;
 ghost use mathlib.Core.Path.{_≡_};
 ghost use Prim.Native.Nat.{_*_, _+_, _<_, _^_, _≤_};
 ghost use lib.ListN.{length};
-ghost use Rattle.yaml_lexeme.specs.Held.{record-of};
-ghost use Rattle.news.specs.declared.Opening.the-variants as opening;
-ghost use Rattle.states.specs.Brief.{brief-event};
-ghost use Rattle.states.specs.Laid.{opening-if};
-ghost use Rattle.states.specs.Say.{empty-of};
-ghost use Rattle.sink.specs.Put.{note-at, put-list, put-news, put-note, put-record, width};
-ghost use Rattle.sink.specs.Tokens.{end-tokens, event-tokens, opening-tokens};
-ghost use Rattle.sink.specs.Settle.{front, settled-words, total};
+ghost use Rattle.yaml_lexeme.specs.Record.{record-of, record-words};
+ghost use Rattle.events.specs.declared.Opening.the-variants as opening;
+ghost use Rattle.events.specs.Event.{brief-event};
+ghost use Rattle.events.specs.Event.{opening-if};
+ghost use Rattle.events.specs.Event.{empty-of};
+ghost use Rattle.sink.specs.Store.{put-list, put-note, put-record};
+ghost use Rattle.sink.specs.StepTokens.{end-tokens, event-tokens, noted-words, opening-tokens, put-news};
+ghost use Rattle.sink.specs.Settle.{front, settled-words, total-records};
 
 // Stores the record of a token in slot n, if there is room for it.
 pub fn put_record(words: &mut [u32], n: usize, t: Token)
     requires { ⌜ n < 2 ^ 60 ⌝ }
     ensures { λ _. ⌜ now (words .exit) ≡ put-record (now (words .entry)) n (record-of t) ⌝ }
 {
-    let at = n * W;
-    if at + W <= words.len() {
+    let at = n * RECORD_WORDS;
+    if at + RECORD_WORDS <= words.len() {
         store(words, at, &record_of(t));
     }
 }
@@ -68,14 +68,14 @@ fn put_note(words: &mut [u32], n: u32, number: u32)
     requires { ⌜ number ≤ 3 ⌝ }
     ensures { λ _. ⌜ now (words .exit) ≡ put-note (now (words .entry)) n number ⌝ }
 {
-    let at = n as usize * W;
-    if at + W <= words.len() {
-        words[at] = words[at] % 32 + 32 * number;
+    let at = n as usize * RECORD_WORDS;
+    if at + RECORD_WORDS <= words.len() {
+        set_note(words, at, number);
     }
 }
 
 fn note(words: &mut [u32], n: Note)
-    ensures { λ _. ⌜ now (words .exit) ≡ note-at (now (words .entry)) n ⌝ }
+    ensures { λ _. ⌜ now (words .exit) ≡ noted-words (now (words .entry)) n ⌝ }
 {
     match n {
         Note::Nothing => {}
@@ -153,14 +153,14 @@ pub fn put_entry(words: &mut [u32], n: u32, here: Mark, ended: u32, starts: bool
 
 // One pass from the back sets n noted records in their final places among t.
 pub fn settle(words: &mut [u32], n: u32, t: u32)
-    requires { ⌜ (t ≡ total (front n (now words))) × (t * width ≤ length (now words)) ⌝ }
+    requires { ⌜ (t ≡ total-records (front n (now words))) × (t * record-words ≤ length (now words)) ⌝ }
     ensures { λ _. ⌜ now (words .exit) ≡ settled-words n (now (words .entry)) ⌝ }
 {
     let mut i = n as usize;
     let mut j = t as usize;
     while i < j {
         i -= 1;
-        let x = load(words, i * W);
+        let x = load(words, i * RECORD_WORDS);
         j = put_block(words, j, x);
     }
 }

@@ -1,13 +1,14 @@
--- The entries of a slice: one more, one less; what a stack that was lowered keeps.
+-- The entries of the lent words: one more, one less, and where they stay. Each entry is one word, so other words do not matter.
 use Prim.Native.Nat.{_%_, _*_, _+_, _-_, _/_, _<_, _≤_, suc, zero, ℕ}
 use mathlib.Core.Bool.{Bool, false, true}
 use mathlib.Core.List.{List, [], _∷_}
-use mathlib.Core.Path.{_≡_, ap, refl}
+use mathlib.Core.Path.{_∙_, _≡_, ap, refl}
 use native.Mathlib.Numerals.{add-one}
 use native.Mathlib.Omega.{arith}
 use lib.ListN.{getD, length, set}
 use lib.Seq.{getD-set-other, getD-set-same}
-use Rattle.stacks.specs.Indent.{Below, Low, entries-of, entry-of, word-of}
+use Rattle.stacks.specs.Stack.{entry-words}
+use Rattle.stacks.specs.Indent.{Below, EntriesStay, Low, entries-of, entry-of, word-of}
 use Rattle.stacks.specs.declared.indent.Indents.{Indents}
 
 pub entries-length : (a : List ℕ) (d : ℕ) → length (entries-of a d) ≡ d
@@ -15,13 +16,29 @@ unfolding entries-of
 entries-length a zero = refl
 entries-length a (suc d) = ap suc (entries-length a d)
 
-entries-set : (a : List ℕ) (d k v : ℕ) → d ≤ k → entries-of (set a k v) d ≡ entries-of a d
+-- entries of the same words are the same
+entries-same : (a e : List ℕ) (d : ℕ) → ((k : ℕ) → k < d → getD e k 0 ≡ getD a k 0) → entries-of e d ≡ entries-of a d
 unfolding entries-of
-entries-set a zero k v h = refl
-entries-set a (suc d) k v h =
-    let n : d ≡ k → ⊥ = omega arith in
-    let l : d ≤ k = omega arith in
-    rw (getD-set-other a k d v 0 n, entries-set a d k v l)
+entries-same a e zero s = refl
+entries-same a e (suc d) s = rw (s d (omega arith), entries-same a e d (λ k h. s k (omega arith)))
+
+pub entries-set : (a : List ℕ) (d k v : ℕ) → d ≤ k → entries-of (set a k v) d ≡ entries-of a d
+entries-set a d k v h = entries-same a (set a k v) d (λ j g. getD-set-other a k j v 0 (λ e. omega arith))
+
+pub entries-stay : (a e : List ℕ) → ((k : ℕ) → k < entry-words → getD e k 0 ≡ getD a k 0) → EntriesStay a e
+entries-stay a e s =
+    record {
+      word = s;
+      entries = λ n h. entries-same a e n (λ k g. s k (omega arith));
+      low = λ room b i h l.
+          record { deep = l .deep; indent = l .indent; words = λ k g. rw (s k (omega (arith, l .deep))) (l .words k g) };
+    }
+
+pub entries-stay-same : (a : List ℕ) → EntriesStay a a
+entries-stay-same a = entries-stay a a (λ k h. refl)
+
+pub entries-stay-then : {a b c : List ℕ} → EntriesStay a b → EntriesStay b c → EntriesStay a c
+entries-stay-then {a} {c = c} p q = entries-stay a c (λ k h. q .word k h ∙ p .word k h)
 
 entry-word : (i : ℕ) (ends : Bool) → entry-of (word-of i ends) ≡ record { old = i; ends = ends }
 entry-word i true =

@@ -1,4 +1,4 @@
--- Laws of frames: what is stored is read back, and all else stays.
+-- Laws of frames: what is stored is read back, and all else stays, since the words of two frames are apart and lie behind the entries.
 use Prim.Native.Nat.{_%_, _*_, _+_, _/_, _<_, _≤_, suc, zero, ℕ}
 use mathlib.Core.Bool.{Bool, false, true}
 use mathlib.Core.List.{List, [], _∷_}
@@ -14,8 +14,11 @@ use Rattle.yaml_text.specs.Test.{by-test}
 use Rattle.yaml_scan.specs.declared.Candidate.{Candidate}
 use Rattle.yaml_scan.specs.declared.Candidate.the-variants.{Absent, Possible}
 use Rattle.yaml_scan.specs.declared.Level.{Level}
+use Rattle.yaml_scan.specs.Keys.{is-required}
 use Rattle.stacks.specs.Bit.{bit, bit-low}
-use Rattle.stacks.specs.Frame.{SetsKey, SetsLevel, frame-keys, frame-levels, is-required, key-at, key-of, key-words, level-bits, level-of, level-word, with-level}
+use Rattle.stacks.specs.Stack.{entry-words, frame-at, stack-words}
+use Rattle.stacks.specs.Frame.{FramesStay, SetsKey, SetsLevel, frame-keys, frame-levels, key-at, key-of, key-words, level-bits, level-of, level-word, put-key, put-level, with-level}
+use Rattle.stacks.proofs.Entries.{entries-stay}
 
 -- words that were stored
 
@@ -151,32 +154,57 @@ unfolding frame-levels with-level
 levels-on a e zero l q s = refl
 levels-on a e (suc d) l q s = rw (q, levels-same a e d (λ n h. s n (λ f. omega arith)))
 
+-- words behind the entries that are the same
+
+pub frames-stay : (a e : List ℕ) → ((k : ℕ) → entry-words ≤ k → getD e k 0 ≡ getD a k 0) → FramesStay a e
+frames-stay a e s =
+    let key : (n : ℕ) → key-of e n ≡ key-of a n = λ n. key-same a e (frame-at n) (λ j h. s (frame-at n + j) (omega arith)) in
+    let level : (n : ℕ) → level-of e n ≡ level-of a n = λ n. rw (s (frame-at n + 5) (omega arith)) in
+    record {
+      key = key;
+      level = level;
+      keys = λ n. keys-same a e n (λ m h. key m);
+      levels = λ n. levels-same a e n (λ m h. level m);
+    }
+
+pub frames-stay-same : (a : List ℕ) → FramesStay a a
+frames-stay-same a = frames-stay a a (λ k h. refl)
+
+pub frames-stay-then : {a b c : List ℕ} → FramesStay a b → FramesStay b c → FramesStay a c
+frames-stay-then p q =
+    record {
+      key = λ n. q .key n ∙ p .key n;
+      level = λ n. q .level n ∙ p .level n;
+      keys = λ n. q .keys n ∙ p .keys n;
+      levels = λ n. q .levels n ∙ p .levels n;
+    }
+
 -- a candidate is stored
 
 module _ (a : List ℕ) (d : ℕ) (k : Candidate) where
   abbrev with-key : List ℕ
-  with-key = sets a (d * 6) (key-words k)
+  with-key = put-key a d k
 
-  apart : (n j : ℕ) → j < 6 → (n ≡ d → ⊥) → getD with-key (n * 6 + j) 0 ≡ getD a (n * 6 + j) 0
+  apart : (n j : ℕ) → j < 6 → (n ≡ d → ⊥) → getD with-key (frame-at n + j) 0 ≡ getD a (frame-at n + j) 0
   apart n j h o =
       let w = key-few k in
-      getD-sets-other (key-words k) a (d * 6) (n * 6 + j) (λ f g. o (omega arith))
+      getD-sets-other (key-words k) a (frame-at d) (frame-at n + j) (λ f g. o (omega arith))
 
   key-apart : (n : ℕ) → (n ≡ d → ⊥) → key-of with-key n ≡ key-of a n
-  key-apart n o = key-same a with-key (n * 6) (λ j h. apart n j (omega arith) o)
+  key-apart n o = key-same a with-key (frame-at n) (λ j h. apart n j (omega arith) o)
 
   level-apart : (n : ℕ) → level-of with-key n ≡ level-of a n
   level-apart n =
       let w = key-few k in
-      rw (getD-sets-other (key-words k) a (d * 6) (n * 6 + 5) (λ f g. omega arith))
+      rw (getD-sets-other (key-words k) a (frame-at d) (frame-at n + 5) (λ f g. omega arith))
 
   below-apart : (n : ℕ) → n ≤ d → frame-keys with-key n ≡ frame-keys a n
   below-apart n h = keys-same a with-key n (λ m l. key-apart m (λ e. omega arith))
 
-  pub key-stored : {e : List ℕ} → d * 6 + 6 ≤ length a → e ≡ with-key → SetsKey a e d k
+  pub key-stored : {e : List ℕ} → d ≤ 255 → stack-words ≤ length a → e ≡ with-key → SetsKey a e d k
   unfolding frame-keys
-  key-stored h q =
-      let b = key-back a (d * 6) (omega arith) k in
+  key-stored h n q =
+      let b = key-back a (frame-at d) (omega arith) k in
       rw q (record {
         words = refl;
         key = b;
@@ -185,27 +213,28 @@ module _ (a : List ℕ) (d : ℕ) (k : Candidate) where
         keys = rw (b, below-apart d (omega arith));
         level = level-apart;
         levels = λ n. levels-same a with-key n (λ m l. level-apart m);
+        entries = entries-stay a with-key (λ n g. getD-sets-other (key-words k) a (frame-at d) n (λ f i. omega arith));
       })
 
 -- a level is stored
 
 module _ (a : List ℕ) (d : ℕ) (l : Level) where
   abbrev with-word : List ℕ
-  with-word = set a (d * 6 + 5) (level-word l)
+  with-word = put-level a d l
 
-  word-apart : (k : ℕ) → (k ≡ d * 6 + 5 → ⊥) → getD with-word k 0 ≡ getD a k 0
-  word-apart k o = getD-set-other a (d * 6 + 5) k (level-word l) 0 o
+  run-of-apart : (k : ℕ) → (k ≡ frame-at d + 5 → ⊥) → getD with-word k 0 ≡ getD a k 0
+  run-of-apart k o = getD-set-other a (frame-at d + 5) k (level-word l) 0 o
 
   key-stays : (n : ℕ) → key-of with-word n ≡ key-of a n
-  key-stays n = key-same a with-word (n * 6) (λ j h. word-apart (n * 6 + j) (λ e. omega arith))
+  key-stays n = key-same a with-word (frame-at n) (λ j h. run-of-apart (frame-at n + j) (λ e. omega arith))
 
   level-stays : (n : ℕ) → (n ≡ d → ⊥) → level-of with-word n ≡ level-of a n
-  level-stays n o = rw (word-apart (n * 6 + 5) (λ e. o (omega arith)))
+  level-stays n o = rw (run-of-apart (frame-at n + 5) (λ e. o (omega arith)))
 
-  pub level-stored : {e : List ℕ} → d * 6 + 6 ≤ length a → e ≡ with-word → SetsLevel a e d l
-  level-stored h q =
-      let o : d * 6 + 5 < length a = omega arith in
-      let b : level-of with-word d ≡ l = rw (getD-set-same a (d * 6 + 5) (level-word l) 0 o) (level-back l) in
+  pub level-stored : {e : List ℕ} → d ≤ 255 → stack-words ≤ length a → e ≡ with-word → SetsLevel a e d l
+  level-stored h n q =
+      let o : frame-at d + 5 < length a = omega arith in
+      let b : level-of with-word d ≡ l = rw (getD-set-same a (frame-at d + 5) (level-word l) 0 o) (level-back l) in
       rw q (record {
         words = refl;
         level = b;
@@ -213,4 +242,5 @@ module _ (a : List ℕ) (d : ℕ) (l : Level) where
         levels = levels-on a with-word d l b level-stays;
         key = key-stays;
         keys = λ n. keys-same a with-word n (λ m l. key-stays m);
+        entries = entries-stay a with-word (λ k h. run-of-apart k (λ e. omega arith));
       })

@@ -1,6 +1,5 @@
--- Frames in a lent slice, six words each: the candidate's five, and the flow level's. A frame's number is its flow level.
+-- Frames in the lent words, six words each: the candidate's five, and the flow level's. A frame's number is its flow level.
 use Prim.Native.Nat.{_%_, _*_, _+_, _/_, _≤_, suc, zero, ℕ}
-use mathlib.Core.Bool.{Bool, false}
 use mathlib.Core.List.{List, [], _∷_}
 use mathlib.Core.Path.{_≡_}
 use lib.Dec.{eqb}
@@ -11,6 +10,8 @@ use Rattle.yaml_scan.specs.declared.Candidate.{Candidate}
 use Rattle.yaml_scan.specs.declared.Candidate.the-variants.{Absent, Possible}
 use Rattle.yaml_scan.specs.declared.Level.{Level}
 use Rattle.stacks.specs.Bit.{bit}
+use Rattle.stacks.specs.Stack.{frame-at}
+use Rattle.stacks.specs.Indent.{EntriesStay}
 
 -- the candidate whose words begin at n; its first is 0: absent, 1: possible, 2: possible and required
 unfoldable pub key-at : List ℕ → ℕ → Candidate
@@ -23,10 +24,6 @@ unfoldable pub key-words : Candidate → List ℕ
 key-words Absent = 0 ∷ []
 key-words (Possible required n m) = (1 + bit required) ∷ n ∷ m .index ∷ m .line ∷ m .col ∷ []
 
-unfoldable pub is-required : Candidate → Bool
-is-required Absent = false
-is-required (Possible required n m) = required
-
 unfoldable pub level-bits : ℕ → Level
 level-bits w =
     record { sequence = eqb (w % 2) 1; colon = eqb (w / 2 % 2) 1; question = eqb (w / 4 % 2) 1; implicit = eqb (w / 8 % 2) 1 }
@@ -35,10 +32,17 @@ unfoldable pub level-word : Level → ℕ
 level-word l = bit (l .sequence) + 2 * bit (l .colon) + 4 * bit (l .question) + 8 * bit (l .implicit)
 
 abbrev pub key-of : List ℕ → ℕ → Candidate
-key-of a d = key-at a (d * 6)
+key-of a d = key-at a (frame-at d)
 
 abbrev pub level-of : List ℕ → ℕ → Level
-level-of a d = level-bits (getD a (d * 6 + 5) 0)
+level-of a d = level-bits (getD a (frame-at d + 5) 0)
+
+-- the words with a level's candidate k, or with its data l, stored
+abbrev pub put-key : List ℕ → ℕ → Candidate → List ℕ
+put-key a d k = sets a (frame-at d) (key-words k)
+
+abbrev pub put-level : List ℕ → ℕ → Level → List ℕ
+put-level a d l = set a (frame-at d + 5) (level-word l)
 
 -- the first d frames' candidates, the last first
 unfoldable pub frame-keys : List ℕ → ℕ → List Candidate
@@ -55,21 +59,30 @@ unfoldable pub with-level : Level → List Level → List Level
 with-level l [] = []
 with-level l (k ∷ ks) = l ∷ ks
 
--- frame number d has the candidate k, from the words a to e; all else stays
+-- from the words a to e the frames stay
+pub record FramesStay (a e : List ℕ) : Type 0 where
+  pub key : (n : ℕ) → key-of e n ≡ key-of a n
+  pub level : (n : ℕ) → level-of e n ≡ level-of a n
+  pub keys : (n : ℕ) → frame-keys e n ≡ frame-keys a n
+  pub levels : (n : ℕ) → frame-levels e n ≡ frame-levels a n
+
+-- the frame of flow level d has the candidate k, from the words a to e; all else stays
 pub record SetsKey (a e : List ℕ) (d : ℕ) (k : Candidate) : Type 0 where
-  pub words : e ≡ sets a (d * 6) (key-words k)
+  pub words : e ≡ put-key a d k
   pub key : key-of e d ≡ k
   pub others : (n : ℕ) → (n ≡ d → ⊥) → key-of e n ≡ key-of a n
   pub below : (n : ℕ) → n ≤ d → frame-keys e n ≡ frame-keys a n
   pub keys : frame-keys e (suc d) ≡ k ∷ frame-keys a d
   pub level : (n : ℕ) → level-of e n ≡ level-of a n
   pub levels : (n : ℕ) → frame-levels e n ≡ frame-levels a n
+  pub entries : EntriesStay a e
 
--- frame number d has the level l, from the words a to e; all else stays
+-- it has the level l, from the words a to e; all else stays
 pub record SetsLevel (a e : List ℕ) (d : ℕ) (l : Level) : Type 0 where
-  pub words : e ≡ set a (d * 6 + 5) (level-word l)
+  pub words : e ≡ put-level a d l
   pub level : level-of e d ≡ l
   pub others : (n : ℕ) → (n ≡ d → ⊥) → level-of e n ≡ level-of a n
   pub levels : frame-levels e d ≡ with-level l (frame-levels a d)
   pub key : (n : ℕ) → key-of e n ≡ key-of a n
   pub keys : (n : ℕ) → frame-keys e n ≡ frame-keys a n
+  pub entries : EntriesStay a e

@@ -1,3 +1,5 @@
+pub mod Stack
 pub mod Bit
 pub mod Indent
 pub mod Frame
+pub mod Roll

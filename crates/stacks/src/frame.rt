@@ -1,9 +1,13 @@
-// Frames: the candidate and the flow level of each level, six words each, the current level's last.
+// Frames: the candidate and the flow level's data of each flow level, six words each.
 ghost use mathlib.Core.Path.{_≡_};
-ghost use Prim.Native.Nat.{_*_, _+_, _≤_};
+ghost use Prim.Native.Nat.{_≤_};
 ghost use lib.ListN.{length};
 ghost use Rattle.yaml_scan.specs.declared.Candidate.the-variants as candidate;
-ghost use Rattle.stacks.specs.Frame.{SetsKey, SetsLevel, is-required, key-of, level-of, level-word};
+ghost use Rattle.yaml_scan.specs.Keys.{is-required};
+ghost use Rattle.stacks.specs.Stack.{stack-words};
+ghost use Rattle.stacks.specs.Frame.{SetsKey, SetsLevel, key-of, level-of, level-word};
+use crate::ENTRIES;
+use crate::FRAME_WORDS;
 use yaml_scan::Candidate;
 use yaml_scan::Level;
 use yaml_text::Mark;
@@ -16,58 +20,62 @@ fn level_word(l: Level) -> u32
 }
 
 // The candidate of a level.
-pub fn key(frames: &[u32], depth: usize) -> Candidate
-    requires { ⌜ depth * 6 + 6 ≤ length (now frames) ⌝ }
-    ensures { λ r. ⌜ r ≡ key-of (now (frames .entry)) depth ⌝ }
+pub fn key(stacks: &[u32], level: usize) -> Candidate
+    requires { ⌜ (level ≤ 255) × (stack-words ≤ length (now stacks)) ⌝ }
+    ensures { λ r. ⌜ r ≡ key-of (now (stacks .entry)) level ⌝ }
 {
-    let at = depth * 6;
-    let k = frames[at];
+    let at = ENTRIES + level * FRAME_WORDS;
+    let k = stacks[at];
     if k == 0 {
         return Candidate::Absent;
     }
     let m = Mark {
-        index: frames[at + 2],
-        line: frames[at + 3],
-        col: frames[at + 4],
+        index: stacks[at + 2],
+        line: stacks[at + 3],
+        col: stacks[at + 4],
     };
-    Candidate::Possible(k == 2, frames[at + 1], m)
+    Candidate::Possible {
+        required: k == 2,
+        token_number: stacks[at + 1],
+        mark: m,
+    }
 }
 
 // Whether the candidate of a level is required.
-pub fn is_required(frames: &[u32], depth: usize) -> bool
-    requires { ⌜ depth * 6 + 6 ≤ length (now frames) ⌝ }
-    ensures { λ r. ⌜ r ≡ is-required (key-of (now (frames .entry)) depth) ⌝ }
+pub fn is_required(stacks: &[u32], level: usize) -> bool
+    requires { ⌜ (level ≤ 255) × (stack-words ≤ length (now stacks)) ⌝ }
+    ensures { λ r. ⌜ r ≡ is-required (key-of (now (stacks .entry)) level) ⌝ }
 {
-    frames[depth * 6] == 2
+    stacks[ENTRIES + level * FRAME_WORDS] == 2
 }
 
 // Takes the candidate of a level away.
-pub fn clear_key(frames: &mut [u32], depth: usize)
-    requires { ⌜ depth * 6 + 6 ≤ length (now frames) ⌝ }
-    ensures { λ r. ⌜ SetsKey (now (frames .entry)) (now (frames .exit)) depth candidate.Absent ⌝ }
+pub fn clear_key(stacks: &mut [u32], level: usize)
+    requires { ⌜ (level ≤ 255) × (stack-words ≤ length (now stacks)) ⌝ }
+    ensures { λ r. ⌜ SetsKey (now (stacks .entry)) (now (stacks .exit)) level candidate.Absent ⌝ }
 {
-    frames[depth * 6] = 0;
+    stacks[ENTRIES + level * FRAME_WORDS] = 0;
 }
 
 // Saves the candidate of a level.
-pub fn set_key(frames: &mut [u32], depth: usize, required: bool, number: u32, m: Mark)
-    requires { ⌜ depth * 6 + 6 ≤ length (now frames) ⌝ }
-    ensures { λ r. ⌜ SetsKey (now (frames .entry)) (now (frames .exit)) depth (candidate.Possible required number m) ⌝ }
+pub fn set_key(stacks: &mut [u32], level: usize, required: bool, number: u32, m: Mark)
+    requires { ⌜ (level ≤ 255) × (stack-words ≤ length (now stacks)) ⌝ }
+    ensures { λ r. ⌜ SetsKey (now (stacks .entry)) (now (stacks .exit)) level (candidate.Possible required number m) ⌝ }
 {
-    let at = depth * 6;
-    frames[at] = 1 + required as u32;
-    frames[at + 1] = number;
-    frames[at + 2] = m.index;
-    frames[at + 3] = m.line;
-    frames[at + 4] = m.col;
+    let at = ENTRIES + level * FRAME_WORDS;
+    stacks[at] = 1 + required as u32;
+    stacks[at + 1] = number;
+    stacks[at + 2] = m.index;
+    stacks[at + 3] = m.line;
+    stacks[at + 4] = m.col;
 }
 
 // The data of a level.
-pub fn level(frames: &[u32], depth: usize) -> Level
-    requires { ⌜ depth * 6 + 6 ≤ length (now frames) ⌝ }
-    ensures { λ r. ⌜ r ≡ level-of (now (frames .entry)) depth ⌝ }
+pub fn level_data(stacks: &[u32], level: usize) -> Level
+    requires { ⌜ (level ≤ 255) × (stack-words ≤ length (now stacks)) ⌝ }
+    ensures { λ r. ⌜ r ≡ level-of (now (stacks .entry)) level ⌝ }
 {
-    let w = frames[depth * 6 + 5];
+    let w = stacks[ENTRIES + level * FRAME_WORDS + 5];
     Level {
         sequence: w % 2 == 1,
         colon: w / 2 % 2 == 1,
@@ -76,9 +84,9 @@ pub fn level(frames: &[u32], depth: usize) -> Level
     }
 }
 
-pub fn set_level(frames: &mut [u32], depth: usize, l: Level)
-    requires { ⌜ depth * 6 + 6 ≤ length (now frames) ⌝ }
-    ensures { λ r. ⌜ SetsLevel (now (frames .entry)) (now (frames .exit)) depth l ⌝ }
+pub fn set_level(stacks: &mut [u32], level: usize, l: Level)
+    requires { ⌜ (level ≤ 255) × (stack-words ≤ length (now stacks)) ⌝ }
+    ensures { λ r. ⌜ SetsLevel (now (stacks .entry)) (now (stacks .exit)) level l ⌝ }
 {
-    frames[depth * 6 + 5] = level_word(l);
+    stacks[ENTRIES + level * FRAME_WORDS + 5] = level_word(l);
 }

@@ -2,9 +2,13 @@
 // taken back when it goes, times two, and 1 where a BlockEnd is given then.
 ghost use mathlib.Core.Path.{_≡_};
 ghost use Prim.Native.Nat.{_^_, _<_, _≤_};
-ghost use lib.ListN.{length};
+ghost use lib.ListN.{length, set};
 ghost use Rattle.yaml_scan.specs.Indent.{drop-for, drop-non-ending, top-ends};
-ghost use Rattle.stacks.specs.Indent.{Lowers, Rolls, Stacks, Unrolls, entries-of, word-of};
+ghost use Rattle.stacks.specs.Stack.{entry-words, stack-words};
+ghost use Rattle.stacks.specs.Indent.{Lowers, Unrolls, entries-of, word-of};
+ghost use Rattle.stacks.specs.Roll.{Rolls, Stacks, full-at, one-more};
+use yaml_text::Mark;
+use yaml_text::Refusal;
 
 // The indent, and how many entries are stacked.
 pub struct Indents {
@@ -15,13 +19,13 @@ pub struct Indents {
 // Indents, or that the stack is full (48).
 pub enum Stacked {
     Got(Indents),
-    Full,
+    Refused(Refusal),
 }
 
 // Whether a start token is to be added, and the indents; or that the stack is full (48).
 pub enum Rolled {
-    Got(bool, Indents),
-    Full,
+    Got { starts: bool, indents: Indents },
+    Refused(Refusal),
 }
 
 // How many blocks ended, and the indents left.
@@ -31,27 +35,27 @@ pub struct Unrolled {
 }
 
 // Whether the top entry ends in BlockEnd.
-pub fn top_ends(stack: &[u32], depth: usize) -> bool
-    requires { ⌜ depth ≤ length (now stack) ⌝ }
-    ensures { λ r. ⌜ r ≡ top-ends (entries-of (now (stack .entry)) depth) ⌝ }
+pub fn top_ends(stacks: &[u32], depth: usize) -> bool
+    requires { ⌜ depth ≤ length (now stacks) ⌝ }
+    ensures { λ r. ⌜ r ≡ top-ends (entries-of (now (stacks .entry)) depth) ⌝ }
 {
     if depth == 0 {
         return false;
     }
-    stack[depth - 1] % 2 == 1
+    stacks[depth - 1] % 2 == 1
 }
 
 // Entries go while the indent is above the column.
-pub fn unroll(stack: &[u32], edge: u32, from: Indents) -> Unrolled
-    requires { ⌜ (from .depth ≤ length (now stack)) × (from .depth < 2 ^ 32) ⌝ }
-    ensures { λ r. ⌜ Unrolls (now (stack .entry)) edge from r ⌝ }
+pub fn unroll(stacks: &[u32], edge: u32, from: Indents) -> Unrolled
+    requires { ⌜ (from .depth ≤ length (now stacks)) × (from .depth < 2 ^ 32) ⌝ }
+    ensures { λ r. ⌜ Unrolls (now (stacks .entry)) edge from r ⌝ }
 {
     let mut indent = from.indent;
     let mut depth = from.depth;
     let mut ended: u32 = 0;
     while 0 < depth && edge < indent {
         depth -= 1;
-        let entry = stack[depth];
+        let entry = stacks[depth];
         indent = entry / 2;
         ended += entry % 2;
     }
@@ -65,15 +69,15 @@ pub fn unroll(stack: &[u32], edge: u32, from: Indents) -> Unrolled
 }
 
 // The entries that end no block go, as a block scalar does it.
-pub fn drop_non_ending(stack: &[u32], from: Indents) -> Indents
-    requires { ⌜ from .depth ≤ length (now stack) ⌝ }
-    ensures { λ r. ⌜ Lowers (now (stack .entry)) from r (drop-non-ending (from .indent) (entries-of (now (stack .entry)) (from .depth))) ⌝ }
+pub fn drop_non_ending(stacks: &[u32], from: Indents) -> Indents
+    requires { ⌜ from .depth ≤ length (now stacks) ⌝ }
+    ensures { λ r. ⌜ Lowers (now (stacks .entry)) from r (drop-non-ending (from .indent) (entries-of (now (stacks .entry)) (from .depth))) ⌝ }
 {
     let mut indent = from.indent;
     let mut depth = from.depth;
-    while 0 < depth && stack[depth - 1] % 2 == 0 {
+    while 0 < depth && stacks[depth - 1] % 2 == 0 {
         depth -= 1;
-        indent = stack[depth] / 2;
+        indent = stacks[depth] / 2;
     }
     Indents {
         indent: indent,
@@ -82,9 +86,9 @@ pub fn drop_non_ending(stack: &[u32], from: Indents) -> Indents
 }
 
 // A non-ending top entry is dropped if the indent is at most the column.
-fn drop_for(stack: &[u32], edge: u32, from: Indents) -> Indents
-    requires { ⌜ (from .depth ≤ length (now stack)) × (from .indent < 2 ^ 31) ⌝ }
-    ensures { λ r. ⌜ Lowers (now (stack .entry)) from r (drop-for edge (from .indent) (entries-of (now (stack .entry)) (from .depth))) × (r .indent < 2 ^ 31) ⌝ }
+fn drop_for(stacks: &[u32], edge: u32, from: Indents) -> Indents
+    requires { ⌜ (from .depth ≤ length (now stacks)) × (from .indent < 2 ^ 31) ⌝ }
+    ensures { λ r. ⌜ Lowers (now (stacks .entry)) from r (drop-for edge (from .indent) (entries-of (now (stacks .entry)) (from .depth))) × (r .indent < 2 ^ 31) ⌝ }
 {
     let depth = from.depth;
     if depth == 0 {
@@ -93,7 +97,7 @@ fn drop_for(stack: &[u32], edge: u32, from: Indents) -> Indents
     if edge < from.indent {
         return from;
     }
-    let entry = stack[depth - 1];
+    let entry = stacks[depth - 1];
     if entry % 2 == 1 {
         return from;
     }
@@ -104,41 +108,72 @@ fn drop_for(stack: &[u32], edge: u32, from: Indents) -> Indents
 }
 
 // An entry as a word.
-fn word(indent: u32, ends: bool) -> u32
+fn entry_word(indent: u32, ends: bool) -> u32
     requires { ⌜ indent < 2 ^ 31 ⌝ }
     ensures { λ r. ⌜ r ≡ word-of indent ends ⌝ }
 {
     indent * 2 + ends as u32
 }
 
-// One entry more, and its indent.
-pub fn stack(entries: &mut [u32], limit: usize, indent: u32, ends: bool, from: Indents) -> Stacked
-    requires { ⌜ (limit ≤ length (now entries)) × (from .indent < 2 ^ 31) ⌝ }
-    ensures { λ r. ⌜ Stacks (now (entries .entry)) (now (entries .exit)) limit indent ends from r ⌝ }
+// 48, at m: the stack is full.
+pub fn full(m: Mark) -> Refusal
+    ensures { λ r. ⌜ r ≡ full-at m ⌝ }
 {
-    let depth = from.depth;
-    if limit <= depth {
-        return Stacked::Full;
+    Refusal {
+        number: 48,
+        mark: m,
     }
-    entries[depth] = word(from.indent, ends);
-    Stacked::Got(Indents {
-        indent: indent,
-        depth: depth + 1,
-    })
 }
 
-// K4, at level 0.
-pub fn roll(entries: &mut [u32], limit: usize, edge: u32, from: Indents) -> Rolled
-    requires { ⌜ (from .depth ≤ length (now entries)) × (limit ≤ length (now entries)) × (from .indent < 2 ^ 31) ⌝ }
-    ensures { λ r. ⌜ Rolls (now (entries .entry)) (now (entries .exit)) limit edge from r ⌝ }
+// One entry more, and its indent; there is room for it.
+pub fn push(stacks: &mut [u32], indent: u32, ends: bool, from: Indents) -> Indents
+    requires { ⌜ (from .depth < entry-words) × (stack-words ≤ length (now stacks)) × (from .indent < 2 ^ 31) ⌝ }
+    ensures { λ r. ⌜ (r ≡ one-more indent from) × (now (stacks .exit) ≡ set (now (stacks .entry)) (from .depth) (word-of (from .indent) ends)) ⌝ }
 {
-    let d = drop_for(entries, edge, from);
-    if edge <= d.indent {
-        return Rolled::Got(false, d);
+    let depth = from.depth;
+    stacks[depth] = entry_word(from.indent, ends);
+    Indents {
+        indent: indent,
+        depth: depth + 1,
     }
-    let s = stack(entries, limit, edge, true, d);
+}
+
+// One entry more, and its indent, if the limit allows it.
+fn stack(
+    stacks: &mut [u32],
+    limit: usize,
+    m: Mark,
+    indent: u32,
+    ends: bool,
+    from: Indents,
+) -> Stacked
+    requires { ⌜ (limit ≤ entry-words) × (stack-words ≤ length (now stacks)) × (from .indent < 2 ^ 31) ⌝ }
+    ensures { λ r. ⌜ Stacks (now (stacks .entry)) (now (stacks .exit)) limit m indent ends from r ⌝ }
+{
+    if limit <= from.depth {
+        return Stacked::Refused(full(m));
+    }
+    Stacked::Got(push(stacks, indent, ends, from))
+}
+
+// K4, at level 0. 48, at m: the stack is full.
+pub fn roll(stacks: &mut [u32], limit: usize, m: Mark, edge: u32, from: Indents) -> Rolled
+    requires { ⌜ (from .depth ≤ length (now stacks)) × (limit ≤ entry-words) × (stack-words ≤ length (now stacks)) × (from .indent < 2 ^ 31) ⌝ }
+    ensures { λ r. ⌜ Rolls (now (stacks .entry)) (now (stacks .exit)) limit m edge from r ⌝ }
+{
+    let d = drop_for(stacks, edge, from);
+    if edge <= d.indent {
+        return Rolled::Got {
+            starts: false,
+            indents: d,
+        };
+    }
+    let s = stack(stacks, limit, m, edge, true, d);
     match s {
-        Stacked::Full => Rolled::Full,
-        Stacked::Got(i) => Rolled::Got(true, i),
+        Stacked::Refused(f) => Rolled::Refused(f),
+        Stacked::Got(i) => Rolled::Got {
+            starts: true,
+            indents: i,
+        },
     }
 }

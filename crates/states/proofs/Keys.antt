@@ -1,25 +1,29 @@
--- Laws of the candidate: when it is required, when it is stale, how it is saved and how it goes.
+-- Laws of the candidate: when it is required, when it is stale, how it is saved and how it goes. Its frame is stored, and the rest stays.
 use Prim.Native.Nat.{_+_, _-_, _<_, _≤_, ℕ}
 use mathlib.Core.Bool.{Bool, false, true}
 use mathlib.Core.List.{List, _∷_}
-use mathlib.Core.Path.{_∙_, _≡_, ap, refl, sym}
+use mathlib.Core.Path.{_∙_, _≡_, ap, sym}
 use native.Mathlib.Omega.{arith}
 use lib.Dec.{ltb}
 use borrow.Author.Tests.{eq-eqb, le-ltb, lt-ltb, ltb-false, ltb-true, ne-eqb}
 use Rattle.yaml_text.specs.declared.Mark.{Mark}
-use Rattle.yaml_text.specs.Refusal.{_>>=_, got, need, refused}
-use Rattle.yaml_text.specs.Test.{by-test, true-false}
+use Rattle.yaml_text.specs.Refusal.{_>>=_, got, need}
+use Rattle.yaml_text.specs.Test.{by-test}
 use Rattle.yaml_scan.specs.declared.Candidate.{Candidate}
 use Rattle.yaml_scan.specs.declared.Candidate.the-variants.{Absent, Possible}
 use Rattle.yaml_scan.specs.Indent.{top-ends}
-use Rattle.yaml_scan.specs.Keys.{lapse, remove, stale, top-key}
+use Rattle.yaml_scan.specs.Keys.{lapse, stale, top-key}
 use Rattle.yaml_scan.specs.State.{lapse-key, remove-key, save-key, with-keys}
-use Rattle.stacks.specs.Frame.{SetsKey, frame-keys, is-required, key-of, key-words}
+use Rattle.yaml_scan.specs.State as definition
+use Rattle.stacks.specs.Stack.{entry-words}
+use Rattle.stacks.specs.Frame.{SetsKey, frame-keys, key-of}
 use Rattle.stacks.specs.Indent.{entries-of}
+use Rattle.stacks.proofs.Entries.{entries-stay-same}
+use Rattle.states.specs.declared.Lapsed.the-variants as lapsed
 use Rattle.states.specs.declared.State.{State}
 use Rattle.states.specs.State.{key-mark, required-of, state-of}
 use Rattle.states.specs.Seen.{in-flow-seen, low-key}
-use Rattle.states.specs.Key.{Lapses, Removes, Saves, lapsed-words, lapses-at, removed-words, saved-words}
+use Rattle.states.specs.Key.{Lapses, Removes, Saves, lapsed-seen, lapsed-words, lapses-at, removed-words, saved-words}
 
 -- a candidate's age
 
@@ -42,105 +46,110 @@ module _ (k m : Mark) where
 
 -- a candidate here
 
-module _ (entries : List ℕ) (s : State) where
-  pub required-flow : 0 < s .depth → false ≡ required-of entries s
+module _ (stacks : List ℕ) (s : State) where
+  pub required-flow : 0 < s .«flow_level» → false ≡ required-of stacks s
   unfolding required-of
-  required-flow h = rw (lt-ltb 0 (s .depth) h)
+  required-flow h = rw (lt-ltb 0 (s .«flow_level») h)
 
-  pub required-apart : s .depth ≤ 0 → (s .indents .indent ≡ s .place .mark .col + 1 → ⊥) → false ≡ required-of entries s
+  pub required-apart : s .«flow_level» ≤ 0 → (s .indents .indent ≡ s .place .mark .col + 1 → ⊥) → false ≡ required-of stacks s
   unfolding required-of
-  required-apart h n = rw (le-ltb 0 (s .depth) h, ne-eqb (s .indents .indent) (s .place .mark .col + 1) n)
+  required-apart h n = rw (le-ltb 0 (s .«flow_level») h, ne-eqb (s .indents .indent) (s .place .mark .col + 1) n)
 
-  pub required-by : s .depth ≤ 0 → s .indents .indent ≡ s .place .mark .col + 1 → top-ends (entries-of entries (s .indents .depth)) ≡ required-of entries s
+  pub required-by : s .«flow_level» ≤ 0 → s .indents .indent ≡ s .place .mark .col + 1 → top-ends (entries-of stacks (s .indents .depth)) ≡ required-of stacks s
   unfolding required-of
-  required-by h e = rw (le-ltb 0 (s .depth) h, eq-eqb (s .indents .indent) (s .place .mark .col + 1) e)
+  required-by h e = rw (le-ltb 0 (s .«flow_level») h, eq-eqb (s .indents .indent) (s .place .mark .col + 1) e)
 
--- another candidate in the frames is another one in the state
+-- another candidate in the frame is another one in the state
 
-key-seen : {a e : List ℕ} {k : Candidate} (s : State) → SetsKey a e (s .depth) k → (text entries : List ℕ) (count : ℕ)
-    → state-of text entries e count s ≡ with-keys (k ∷ frame-keys a (s .depth)) (state-of text entries a count s)
-key-seen s w text entries count = rw (w .keys, w .levels (s .depth))
+pub key-seen : {a e : List ℕ} {k : Candidate} (s : State) → SetsKey a e (s .«flow_level») k → s .indents .depth ≤ entry-words → (text : List ℕ) (count : ℕ)
+    → state-of text e count s ≡ with-keys (k ∷ frame-keys a (s .«flow_level»)) (state-of text a count s)
+key-seen s w h text count = rw (w .keys, w .levels (s .«flow_level»), w .entries .entries (s .indents .depth) h)
 
 -- it is saved
 
-module _ (entries a : List ℕ) (count : ℕ) (s : State) where
-  pub saves-allowed : {e : List ℕ} {b : Bool} → s .allowed ≡ true → b ≡ required-of entries s → SetsKey a e (s .depth) (Possible b count (s .place .mark))
-      → Saves entries a e count s
+module _ (a : List ℕ) (count : ℕ) (s : State) where
+  pub saves-allowed : {e : List ℕ} {b : Bool} → s .indents .depth ≤ entry-words → s .«simple_key_allowed» ≡ true → b ≡ required-of a s
+      → SetsKey a e (s .«flow_level») (Possible b count (s .place .mark)) → Saves a e count s
   unfolding saved-words save-key required-of frame-keys key-mark
-  saves-allowed t f w =
+  saves-allowed h t f w =
       record {
         words = w .words ∙ rw (t, f);
-        same = λ text. key-seen s w text entries count ∙ rw (in-flow-seen text entries a count s, f, t);
+        same = λ text. key-seen s w h text count ∙ rw (in-flow-seen text a count s, f, t);
+        entries = w .entries;
         low = low-key w;
       }
 
-  pub saves-not : s .allowed ≡ false → Saves entries a a count s
+  pub saves-not : s .«simple_key_allowed» ≡ false → Saves a a count s
   unfolding saved-words save-key
-  saves-not t = record { words = rw t; same = λ text. rw t; low = λ h l. h }
+  saves-not t = record { words = rw t; same = λ text. rw t; entries = entries-stay-same a; low = λ h l. h }
 
 -- it goes
 
-module _ (m : Mark) where
-  remove-refused : (k : Candidate) → is-required k ≡ true → remove m k ≡ refused 41 m
-  unfolding remove is-required need _>>=_
-  remove-refused Absent e = true-false (sym e)
-  remove-refused (Possible required n k) e = rw e
-
-  remove-got : (k : Candidate) → is-required k ≡ false → remove m k ≡ got Absent
-  unfolding remove is-required need _>>=_
-  remove-got Absent e = refl
-  remove-got (Possible required n k) e = rw e
-
 module _ (a : List ℕ) (s : State) where
-  pub removes-not : is-required (key-of a (s .depth)) ≡ true → Removes a a s false
-  unfolding removed-words remove-key top-key frame-keys _>>=_
-  removes-not t =
-      record { words = rw t; same = λ text entries count. rw (remove-refused (s .place .mark) (key-of a (s .depth)) t); low = λ l. l }
-
-  pub removes : {e : List ℕ} → is-required (key-of a (s .depth)) ≡ false → SetsKey a e (s .depth) Absent → Removes a e s true
-  unfolding removed-words remove-key top-key frame-keys key-words key-mark _>>=_
-  removes t w =
+  pub removes : {e : List ℕ} → s .indents .depth ≤ entry-words → SetsKey a e (s .«flow_level») Absent → Removes a e s
+  unfolding removed-words remove-key frame-keys key-mark
+  removes h w =
       record {
-        words = w .words ∙ rw t;
-        same = λ text entries count. rw (remove-got (s .place .mark) (key-of a (s .depth)) t) (sym (ap got (key-seen s w text entries count)));
+        words = w .words;
+        same = λ text count. key-seen s w h text count;
+        sets = w;
         low = λ l. low-key w l (omega arith);
       }
 
-  pub lapses-flow : 0 < s .depth → Lapses a a s true
-  unfolding lapsed-words lapse-key
+  pub lapses-flow : 0 < s .«flow_level» → Lapses a a s lapsed.Passed
+  unfolding lapsed-words lapsed-seen lapse-key
   lapses-flow h =
-      let t = lt-ltb 0 (s .depth) h in
-      record { words = rw t; same = λ text entries count. rw (in-flow-seen text entries a count s, t, lapse-key); low = λ l. l }
+      let t = lt-ltb 0 (s .«flow_level») h in
+      record {
+        words = rw t;
+        same = λ text count. rw (in-flow-seen text a count s, t, lapse-key);
+        entries = entries-stay-same a;
+        low = λ l. l;
+      }
 
-  module _ (h : s .depth ≤ 0) where
-    outside : (text entries : List ℕ) (count : ℕ) → lapse-key (state-of text entries a count s)
-        ≡ lapse (s .place .mark) (key-of a (s .depth)) >>= λ k. got (with-keys (k ∷ frame-keys a (s .depth)) (state-of text entries a count s))
+  module _ (h : s .«flow_level» ≤ 0) where
+    outside : (text : List ℕ) (count : ℕ) → lapse-key (state-of text a count s)
+        ≡ lapse (s .place .mark) (key-of a (s .«flow_level»)) >>= λ k. got (with-keys (k ∷ frame-keys a (s .«flow_level»)) (state-of text a count s))
     unfolding lapse-key top-key frame-keys
-    outside text entries count = rw (in-flow-seen text entries a count s, le-ltb 0 (s .depth) h, lapse-key)
+    outside text count = rw (in-flow-seen text a count s, le-ltb 0 (s .«flow_level») h, lapse-key)
 
-    stays : lapses-at (s .place .mark) (key-of a (s .depth)) ≡ false → lapse (s .place .mark) (key-of a (s .depth)) ≡ got (key-of a (s .depth)) → Lapses a a s true
-    unfolding lapsed-words frame-keys _>>=_
+    stays : lapses-at (s .place .mark) (key-of a (s .«flow_level»)) ≡ false → lapse (s .place .mark) (key-of a (s .«flow_level»)) ≡ got (key-of a (s .«flow_level»))
+        → Lapses a a s lapsed.Passed
+    unfolding lapsed-words lapsed-seen frame-keys _>>=_
     stays t f =
         record {
-          words = rw (le-ltb 0 (s .depth) h, t);
-          same = λ text entries count. outside text entries count ∙ rw f;
+          words = rw (le-ltb 0 (s .«flow_level») h, t);
+          same = λ text count. sym (outside text count ∙ rw f);
+          entries = entries-stay-same a;
           low = λ l. l;
         }
 
-    pub lapses-none : key-of a (s .depth) ≡ Absent → Lapses a a s true
+    pub lapses-none : key-of a (s .«flow_level») ≡ Absent → Lapses a a s lapsed.Passed
     unfolding lapses-at lapse
     lapses-none f = stays (rw f) (rw f)
 
-    module _ (required : Bool) (n : ℕ) (k : Mark) (f : key-of a (s .depth) ≡ Possible required n k) where
-      pub lapses-fresh : stale k (s .place .mark) ≡ false → Lapses a a s true
+    module _ (required : Bool) (n : ℕ) (k : Mark) (f : key-of a (s .«flow_level») ≡ Possible required n k) where
+      pub lapses-fresh : stale k (s .place .mark) ≡ false → Lapses a a s lapsed.Passed
       unfolding lapses-at lapse
       lapses-fresh t = stays (rw (f, t)) (rw (f, lapse, t))
 
-      pub lapses-stale : {e : List ℕ} {r : Bool} → stale k (s .place .mark) ≡ true → Removes a e s r → Lapses a e s r
-      unfolding lapsed-words lapses-at lapse remove-key top-key frame-keys
-      lapses-stale t w =
-          record {
-            words = w .words ∙ rw (le-ltb 0 (s .depth) h, f, t);
-            same = λ text entries count. outside text entries count ∙ rw (f, lapse, t, ← f) (w .same text entries count);
-            low = w .low;
-          }
+      module _ (t : stale k (s .place .mark) ≡ true) where
+        pub lapses-refused : required ≡ true → Lapses a a s (lapsed.Refused (record { number = 41; mark = s .place .mark }))
+        unfolding lapsed-words lapses-at lapsed-seen lapse need _>>=_
+        lapses-refused q =
+            record {
+              words = rw (le-ltb 0 (s .«flow_level») h, f, t, q);
+              same = λ text count. sym (outside text count ∙ rw (f, lapse, t, q));
+              entries = entries-stay-same a;
+              low = λ l. l;
+            }
+
+        pub lapses-stale : {e : List ℕ} → required ≡ false → Removes a e s → Lapses a e s lapsed.Passed
+        unfolding lapsed-words lapses-at lapsed-seen lapse need remove-key frame-keys _>>=_
+        lapses-stale q w =
+            record {
+              words = w .words ∙ rw (le-ltb 0 (s .«flow_level») h, f, t, q);
+              same = λ text count. sym (outside text count ∙ rw (f, lapse, t, q) (sym (ap got (w .same text count))));
+              entries = w .sets .entries;
+              low = w .low;
+            }

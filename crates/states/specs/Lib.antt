@@ -2,9 +2,7 @@ pub mod State
 pub mod Rest
 pub mod Seen
 pub mod Key
-pub mod Say
-pub mod Weighed
-pub mod Laid
 pub mod Fetch
-pub mod Goes
+pub mod Answer
 pub mod Brief
+pub mod Lexed

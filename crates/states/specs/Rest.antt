@@ -1,14 +1,21 @@
--- The rest of a text from a place on, which a reader is given: its places are counted from there.
-use Prim.Native.Nat.{ℕ}
+-- The rest of a text from a place on, which a reader is lent as `&text[at..]`: its places are counted from there.
+use Prim.Native.Nat.{_+_, _-_, _<_, _^_, ℕ}
 use mathlib.Core.List.{List}
 use mathlib.Core.Path.{_≡_, ap}
 use native.Mathlib.Omega.{arith}
-use lib.ListN.{drop, length, length-drop}
-use lib.Seq.{drop-drop}
+use lib.ListN.{drop, getD, length, length-drop, take}
+use lib.Seq.{drop-drop, getD-drop}
 use Rattle.chars.specs.declared.mark.Place.{Place}
 use Rattle.chars.specs.View.{Stands, view}
-use Rattle.reading.specs.Reading.{first-at}
+use Rattle.rooms.specs.Room.{rest-whole}
+use Rattle.reading.specs.Reading.{Given, Indicated, first-at}
 use Rattle.states.specs.State.{behind-of}
+
+abbrev pub rest-at : List ℕ → Place → List ℕ
+rest-at text p = take (length text - p .at) (drop (p .at) text)
+
+pub is-rest : (text : List ℕ) (p : Place) → rest-at text p ≡ drop (p .at) text
+is-rest text p = rest-whole (p .at) text
 
 module _ {rest : List ℕ} (text : List ℕ) (p : Place) (e : rest ≡ drop (p .at) text) where
   -- its first place is the place
@@ -30,3 +37,22 @@ module _ {rest : List ℕ} (text : List ℕ) (p : Place) (e : rest ≡ drop (p .
       let l = ap length e in
       let m = length-drop (p .at) text in
       record { within = omega (arith, h, k); index = omega (arith, h, k); line = k .line; col = k .col }
+
+  -- the sum wraps nowhere
+  pub behind-fits : {q : Place} → Stands text p → Stands rest q → length text < 2 ^ 63 → p .at + q .at < 2 ^ 63
+  behind-fits h k n =
+      let l = ap length e in
+      let m = length-drop (p .at) text in
+      omega (arith, h, k)
+
+  -- what readers ask for
+
+  pub rest-given : {used : ℕ} → Stands text p → used < 2 ^ 31 → Given rest (p .mark) used
+  rest-given h u = record { stands = rest-stands h; room = u }
+
+  pub rest-indicated : {used : ℕ} → Stands text p → used < 2 ^ 31 → p .at < length text → getD text (p .at) 0 < 128 → Indicated rest (p .mark) used
+  rest-indicated h u l b =
+      let n = ap length e in
+      let m = length-drop (p .at) text in
+      let z : p .at + 0 ≡ p .at = omega arith in
+      record { given = rest-given h u; some = omega arith; ascii = rw (e, getD-drop (p .at) text 0 0, z) b }

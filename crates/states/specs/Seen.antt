@@ -10,18 +10,21 @@ use Rattle.yaml_text.specs.Test.{by-test}
 use Rattle.yaml_scan.specs.declared.Candidate.{Candidate}
 use Rattle.yaml_scan.specs.declared.Level.{Level}
 use Rattle.yaml_scan.specs.Keys.{top-key}
-use Rattle.yaml_scan.specs.State.{in-flow}
-use Rattle.stacks.specs.Frame.{SetsKey, SetsLevel, frame-keys, frame-levels, key-of}
+use Rattle.yaml_scan.specs.State.{in-flow, with-indents}
+use Rattle.stacks.specs.declared.indent.Indents.{Indents}
+use Rattle.stacks.specs.Stack.{entry-words}
+use Rattle.stacks.specs.Indent.{EntriesStay, indents-seen}
+use Rattle.stacks.specs.Frame.{FramesStay, SetsKey, SetsLevel, frame-keys, frame-levels, key-of}
 use Rattle.states.specs.declared.State.{State}
 use Rattle.states.specs.State.{KeysLow, key-mark, state-of}
 
 some-level : List Level → Bool
 some-level ls = elim ls [ [] ↦ false | l ∷ ls ↦ true ]
 
-some-seen : (frames : List ℕ) (d : ℕ) → some-level (frame-levels frames d) ≡ ltb 0 d
+some-seen : (stacks : List ℕ) (d : ℕ) → some-level (frame-levels stacks d) ≡ ltb 0 d
 unfolding some-level frame-levels
-some-seen frames zero = refl
-some-seen frames (suc d) = sym (lt-ltb 0 (suc d) (omega arith))
+some-seen stacks zero = refl
+some-seen stacks (suc d) = sym (lt-ltb 0 (suc d) (omega arith))
 
 pub level-zero : (d : ℕ) → not (ltb 0 d) ≡ eqb d 0
 level-zero d =
@@ -29,17 +32,17 @@ level-zero d =
     (λ e. let l = ltb-true 0 d e in rw (e, ne-eqb d 0 (omega arith)))
     (λ e. let l = ltb-false 0 d e in let z : d ≡ 0 = omega arith in rw z)
 
-module _ (text entries frames : List ℕ) (count : ℕ) (s : State) where
-  pub in-flow-seen : in-flow (state-of text entries frames count s) ≡ ltb 0 (s .depth)
+module _ (text stacks : List ℕ) (count : ℕ) (s : State) where
+  pub in-flow-seen : in-flow (state-of text stacks count s) ≡ ltb 0 (s .«flow_level»)
   unfolding in-flow some-level
-  in-flow-seen = some-seen frames (s .depth)
+  in-flow-seen = some-seen stacks (s .«flow_level»)
 
 -- the candidate of the current level
-pub top-seen : (frames : List ℕ) (d : ℕ) → top-key (frame-keys frames (suc d)) ≡ key-of frames d
+pub top-seen : (stacks : List ℕ) (d : ℕ) → top-key (frame-keys stacks (suc d)) ≡ key-of stacks d
 unfolding top-key frame-keys
-top-seen frames d = refl
+top-seen stacks d = refl
 
--- what is stored in the frames keeps the columns low
+-- what is stored in the words keeps the columns low
 
 pub low-key : {a e : List ℕ} {d : ℕ} {k : Candidate} → SetsKey a e d k → KeysLow a → key-mark k .col ≤ 1_048_576 → KeysLow e
 low-key {d = d} w h l n =
@@ -49,3 +52,15 @@ low-key {d = d} w h l n =
 
 pub low-level : {a e : List ℕ} {d : ℕ} {l : Level} → SetsLevel a e d l → KeysLow a → KeysLow e
 low-level w h n = rw (w .key n) (h n)
+
+pub low-frames : {a e : List ℕ} → FramesStay a e → KeysLow a → KeysLow e
+low-frames w h n = rw (w .key n) (h n)
+
+-- entries that stay, and frames that stay, are seen as before
+
+pub entries-seen : {a e : List ℕ} (i : Indents) → EntriesStay a e → i .depth ≤ entry-words → indents-seen e i ≡ indents-seen a i
+entries-seen i w h = rw (w .entries (i .depth) h)
+
+pub frames-seen : {a e : List ℕ} → FramesStay a e → (text : List ℕ) (count : ℕ) (s : State)
+    → state-of text e count s ≡ with-indents (indents-seen e (s .indents)) (state-of text a count s)
+frames-seen w text count s = rw (w .keys (suc (s .«flow_level»)), w .levels (s .«flow_level»))

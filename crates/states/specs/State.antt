@@ -1,5 +1,5 @@
 -- The state of the code: its changes, and what the definition sees of it with its stacks.
-use Prim.Native.Nat.{_*_, _+_, _≤_, suc, ℕ}
+use Prim.Native.Nat.{_+_, _≤_, suc, ℕ}
 use mathlib.Core.Bool.{Bool, _&&_, not, true}
 use mathlib.Core.List.{List}
 use lib.Dec.{eqb, ltb}
@@ -14,6 +14,7 @@ use Rattle.yaml_scan.specs.State as definition
 use Rattle.chars.specs.declared.mark.Place.{Place}
 use Rattle.chars.specs.View.{Stands, view}
 use Rattle.stacks.specs.declared.indent.Indents.{Indents}
+use Rattle.stacks.specs.Stack.{entry-words, stack-words}
 use Rattle.stacks.specs.Indent.{Low, entries-of, indents-seen}
 use Rattle.stacks.specs.Frame.{frame-keys, frame-levels, key-of}
 use Rattle.states.specs.declared.State.{State}
@@ -21,27 +22,27 @@ use Rattle.states.specs.declared.State.{State}
 -- the state with some parts changed
 
 abbrev pub s-moved : State → Place → Bool → Bool → State
-s-moved s p leads allowed = record { place = p; leads = leads; allowed = allowed; indents = s .indents; depth = s .depth; adjacent = s .adjacent }
+s-moved s p leads allowed = record { place = p; «leading_whitespace» = leads; «simple_key_allowed» = allowed; indents = s .indents; «flow_level» = s .«flow_level»; «adjacent_value_allowed_at» = s .«adjacent_value_allowed_at» }
 
 abbrev pub s-with-indents : State → Indents → State
-s-with-indents s i = record { place = s .place; leads = s .leads; allowed = s .allowed; indents = i; depth = s .depth; adjacent = s .adjacent }
+s-with-indents s i = record { place = s .place; «leading_whitespace» = s .«leading_whitespace»; «simple_key_allowed» = s .«simple_key_allowed»; indents = i; «flow_level» = s .«flow_level»; «adjacent_value_allowed_at» = s .«adjacent_value_allowed_at» }
 
-abbrev pub s-with-depth : State → ℕ → State
-s-with-depth s d = record { place = s .place; leads = s .leads; allowed = s .allowed; indents = s .indents; depth = d; adjacent = s .adjacent }
+abbrev pub s-with-level : State → ℕ → State
+s-with-level s l = record { place = s .place; «leading_whitespace» = s .«leading_whitespace»; «simple_key_allowed» = s .«simple_key_allowed»; indents = s .indents; «flow_level» = l; «adjacent_value_allowed_at» = s .«adjacent_value_allowed_at» }
 
 abbrev pub s-adjacent-here : State → State
-s-adjacent-here s = record { place = s .place; leads = s .leads; allowed = s .allowed; indents = s .indents; depth = s .depth; adjacent = s .place .mark .index + 1 }
+s-adjacent-here s = record { place = s .place; «leading_whitespace» = s .«leading_whitespace»; «simple_key_allowed» = s .«simple_key_allowed»; indents = s .indents; «flow_level» = s .«flow_level»; «adjacent_value_allowed_at» = s .place .mark .index + 1 }
 
 -- StreamStart was given
 abbrev pub s-begin : State
 s-begin =
     record {
       place = record { at = 0; mark = origin };
-      leads = true;
-      allowed = true;
+      «leading_whitespace» = true;
+      «simple_key_allowed» = true;
       indents = record { indent = 0; depth = 0 };
-      depth = 0;
-      adjacent = 0;
+      «flow_level» = 0;
+      «adjacent_value_allowed_at» = 0;
     }
 
 -- a place that was counted from p on
@@ -50,20 +51,20 @@ behind-of p next = record { at = p .at + next .at; mark = next .mark }
 
 -- K2: a candidate here is required
 unfoldable pub required-of : List ℕ → State → Bool
-required-of entries s =
-    not (ltb 0 (s .depth)) && eqb (s .indents .indent) (s .place .mark .col + 1) && top-ends (entries-of entries (s .indents .depth))
+required-of stacks s =
+    not (ltb 0 (s .«flow_level»)) && eqb (s .indents .indent) (s .place .mark .col + 1) && top-ends (entries-of stacks (s .indents .depth))
 
 -- what the definition sees, after so many tokens
-abbrev pub state-of : List ℕ → List ℕ → List ℕ → ℕ → State → definition.State
-state-of text entries frames count s =
+abbrev pub state-of : List ℕ → List ℕ → ℕ → State → definition.State
+state-of text stacks count s =
     record {
       place = view text (s .place);
-      leads = s .leads;
-      allowed = s .allowed;
-      indents = indents-seen entries (s .indents);
-      keys = frame-keys frames (suc (s .depth));
-      levels = frame-levels frames (s .depth);
-      adjacent = s .adjacent;
+      leading-whitespace = s .«leading_whitespace»;
+      simple-key-allowed = s .«simple_key_allowed»;
+      indents = indents-seen stacks (s .indents);
+      keys = frame-keys stacks (suc (s .«flow_level»));
+      levels = frame-levels stacks (s .«flow_level»);
+      adjacent-value-allowed-at = s .«adjacent_value_allowed_at»;
       count = count;
     }
 
@@ -74,18 +75,17 @@ key-mark (Possible required n m) = m
 
 -- a candidate's column is below 1,048,577, as any column is
 abbrev pub KeysLow : List ℕ → Type 0
-KeysLow frames = (n : ℕ) → key-mark (key-of frames n) .col ≤ 1_048_576
+KeysLow stacks = (n : ℕ) → key-mark (key-of stacks n) .col ≤ 1_048_576
 
 -- what every step keeps of a state: it stands in the text, its stacks are within their limits, and their columns are those of a text
-pub record Sane (limits : Limits) (text entries frames : List ℕ) (s : State) : Type 0 where
+pub record Sane (limits : Limits) (text stacks : List ℕ) (s : State) : Type 0 where
   pub stands : Stands text (s .place)
-  pub low : Low (limits .entries) 1_048_577 entries (s .indents)
-  pub deep : s .depth ≤ limits .levels
-  pub keys : KeysLow frames
+  pub low : Low (limits .entries) 1_048_577 stacks (s .indents)
+  pub deep : s .«flow_level» ≤ limits .levels
+  pub keys : KeysLow stacks
 
--- the stacks that are lent hold what the limits allow, at most 01's: one frame more than there are flow levels
-pub record Lent (limits : Limits) (entries frames : List ℕ) : Type 0 where
-  pub entries-room : limits .entries ≤ length entries
-  pub frames-room : (limits .levels + 1) * 6 ≤ length frames
-  pub entries-most : limits .entries ≤ 255
+-- the words that are lent hold all entries and frames, and the limits are at most 01's
+pub record Lent (limits : Limits) (stacks : List ℕ) : Type 0 where
+  pub room : stack-words ≤ length stacks
+  pub entries-most : limits .entries ≤ entry-words
   pub levels-most : limits .levels ≤ 255

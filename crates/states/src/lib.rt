@@ -1,28 +1,23 @@
 // What a step knows, by value: its stacks are lent beside it.
 ghost use mathlib.Core.Path.{_≡_};
-ghost use Prim.Native.Nat.{_*_, _+_, _^_, _<_, _≤_};
+ghost use Prim.Native.Nat.{_+_, _^_, _<_, _≤_};
 ghost use lib.ListN.{length};
 ghost use Rattle.yaml_scan.specs.Keys.{stale};
-ghost use Rattle.reading.specs.Reading.{text-size};
-ghost use Rattle.states.specs.State.{behind-of, required-of, s-adjacent-here, s-begin, s-moved, s-with-depth, s-with-indents};
-ghost use Rattle.states.specs.Brief.{brief-event};
-ghost use Rattle.states.specs.Laid.{opening-if};
+ghost use Rattle.stacks.specs.Stack.{entry-words, stack-words};
+ghost use Rattle.events.specs.Event.{closing-of};
+ghost use Rattle.states.specs.State.{behind-of, required-of, s-adjacent-here, s-begin, s-moved, s-with-indents, s-with-level};
 ghost use Rattle.states.specs.Key.{Lapses, Removes, Saves};
-ghost use Rattle.states.specs.Say.{Countable, closing-of, counted-of, note-size, opening-size};
 ghost use Rattle.states.specs.declared.Brief.the-variants as brief;
 ghost use Rattle.states.specs.declared.Fetched.the-variants as fetched;
 use chars::mark::Place;
-use news::Event;
-use news::Note;
-use news::Opening;
+use events::Event;
+use events::closing;
 use reading::Lexeme;
 use stacks::frame::clear_key;
-use stacks::frame::is_required;
 use stacks::frame::key;
 use stacks::frame::set_key;
 use stacks::indent::Indents;
 use stacks::indent::top_ends;
-use yaml_lexeme::Kind;
 use yaml_lexeme::Token;
 use yaml_scan::Candidate;
 use yaml_text::Mark;
@@ -30,22 +25,14 @@ use yaml_text::Refusal;
 
 pub struct State {
     // Only blanks stand between the line's start and here.
-    pub leads: bool,
-    // A simple key is allowed.
-    pub allowed: bool,
+    pub leading_whitespace: bool,
+    pub simple_key_allowed: bool,
     // Index + 1 directly after a quoted scalar's or closing bracket's span; 0: none.
-    pub adjacent: u32,
+    pub adjacent_value_allowed_at: u32,
     pub indents: Indents,
     pub place: Place,
-    // The flow level. Its candidate and its data are in the frame of that number.
-    pub depth: usize,
-}
-
-// How many tokens were given so far, without those put in; how many were put in; how many bytes of text.
-pub struct Counts {
-    pub count: u32,
-    pub put_in: u32,
-    pub used: u32,
+    // Its candidate and its data are in the frame of that number.
+    pub flow_level: usize,
 }
 
 // What was said, with the state behind it; the same at the end of the text; or a refusal.
@@ -58,8 +45,22 @@ pub enum Fetched {
 // What says one token, and the state behind it: a token behind the end of an implicit pair or not; '-' behind the start of
 // its block or not. Or a refusal.
 pub enum Brief {
-    Goes(State, bool, Token),
-    Enters(State, bool, Token),
+    Goes {
+        state: State,
+        pair: bool,
+        token: Token,
+    },
+    Enters {
+        state: State,
+        starts: bool,
+        token: Token,
+    },
+    Refused(Refusal),
+}
+
+// The check of the candidate before a token: passed, or a refusal (41).
+pub enum Lapsed {
+    Passed,
     Refused(Refusal),
 }
 
@@ -81,61 +82,6 @@ pub fn refuse_brief(number: u32, mark: Mark) -> Brief
     })
 }
 
-// How many tokens a note puts in.
-fn note_count(n: Note) -> u32
-    ensures { λ r. ⌜ r ≡ note-size n ⌝ }
-{
-    match n {
-        Note::Nothing => 0,
-        Note::Key(_) => 1,
-        Note::Pair(_) => 2,
-        Note::Block(_) => 2,
-    }
-}
-
-fn opening_count(o: Opening) -> u32
-    ensures { λ r. ⌜ r ≡ opening-size o ⌝ }
-{
-    match o {
-        Opening::Nothing => 0,
-        _ => 1,
-    }
-}
-
-// How many bytes the texts of a kind take.
-fn text_len(k: Kind) -> u32
-    requires { ⌜ text-size k < 2 ^ 32 ⌝ }
-    ensures { λ r. ⌜ r ≡ text-size k ⌝ }
-{
-    match k {
-        Kind::TagDirective(a, b) => a.len + b.len,
-        Kind::Alias(a) => a.len,
-        Kind::Anchor(a) => a.len,
-        Kind::Tag(a, b) => a.len + b.len,
-        Kind::Scalar(_, a) => a.len,
-        Kind::ReservedDirective(a, b) => a.len + b.len,
-        _ => 0,
-    }
-}
-
-impl Counts {
-    // One event more.
-    pub fn counting(self, e: Event) -> Self
-        requires { ⌜ Countable self e ⌝ }
-        ensures { λ r. ⌜ r ≡ counted-of self e ⌝ }
-    {
-        let opening = e.opening;
-        let note = e.note;
-        let token = e.token;
-        let kind = token.kind;
-        Counts {
-            count: self.count + e.closed + opening_count(opening) + 1,
-            put_in: self.put_in + note_count(note),
-            used: self.used + text_len(kind),
-        }
-    }
-}
-
 impl State {
     // StreamStart was given.
     pub fn begin() -> Self
@@ -148,11 +94,11 @@ impl State {
         };
         State {
             place: p,
-            leads: true,
-            allowed: true,
+            leading_whitespace: true,
+            simple_key_allowed: true,
             indents: i,
-            depth: 0,
-            adjacent: 0,
+            flow_level: 0,
+            adjacent_value_allowed_at: 0,
         }
     }
 
@@ -162,8 +108,8 @@ impl State {
     {
         let mut s = self;
         s.place = p;
-        s.leads = leads;
-        s.allowed = allowed;
+        s.leading_whitespace = leads;
+        s.simple_key_allowed = allowed;
         s
     }
 
@@ -175,9 +121,9 @@ impl State {
         let p = self.place;
         let m = p.mark;
         State {
-            leads: self.leads,
-            allowed: self.allowed,
-            adjacent: self.adjacent,
+            leading_whitespace: self.leading_whitespace,
+            simple_key_allowed: self.simple_key_allowed,
+            adjacent_value_allowed_at: self.adjacent_value_allowed_at,
             indents: Indents {
                 indent: i.indent,
                 depth: i.depth,
@@ -186,7 +132,7 @@ impl State {
                 at: p.at,
                 mark: anew(m),
             },
-            depth: self.depth,
+            flow_level: self.flow_level,
         }
     }
 
@@ -198,11 +144,11 @@ impl State {
         s
     }
 
-    pub fn with_depth(self, depth: usize) -> Self
-        ensures { λ r. ⌜ r ≡ s-with-depth self depth ⌝ }
+    pub fn with_level(self, level: usize) -> Self
+        ensures { λ r. ⌜ r ≡ s-with-level self level ⌝ }
     {
         let mut s = self;
-        s.depth = depth;
+        s.flow_level = level;
         s
     }
 
@@ -212,37 +158,32 @@ impl State {
         ensures { λ r. ⌜ r ≡ s-adjacent-here self ⌝ }
     {
         let mut s = self;
-        s.adjacent = s.place.mark.index + 1;
+        s.adjacent_value_allowed_at = s.place.mark.index + 1;
         s
     }
 
     // Whether a candidate here is required: at the block's own column, at level 0.
-    fn requires_key(self, entries: &[u32]) -> bool
-        requires { ⌜ (self .place .mark .col < 2 ^ 31) × (self .indents .depth ≤ length (now entries)) ⌝ }
-        ensures { λ r. ⌜ r ≡ required-of (now (entries .entry)) self ⌝ }
+    fn requires_key(self, stacks: &[u32]) -> bool
+        requires { ⌜ (self .place .mark .col < 2 ^ 31) × (self .indents .depth ≤ length (now stacks)) ⌝ }
+        ensures { λ r. ⌜ r ≡ required-of (now (stacks .entry)) self ⌝ }
     {
-        if 0 < self.depth {
+        if 0 < self.flow_level {
             return false;
         }
         if self.indents.indent != self.place.mark.col + 1 {
             return false;
         }
-        top_ends(entries, self.indents.depth)
+        top_ends(stacks, self.indents.depth)
     }
 
     // K2: the candidate of this level, which would be the token of that number.
-    pub fn save_key(self, count: u32, entries: &[u32], frames: &mut [u32])
-        requires { ⌜ (self .place .mark .col < 2 ^ 31) × (self .indents .depth ≤ length (now entries)) × (self .depth * 6 + 6 ≤ length (now frames)) ⌝ }
-        ensures { λ r. ⌜ Saves (now (entries .entry)) (now (frames .entry)) (now (frames .exit)) count self ⌝ }
+    pub fn save_key(self, count: u32, stacks: &mut [u32])
+        requires { ⌜ (self .«flow_level» ≤ 255) × (self .indents .depth ≤ entry-words) × (stack-words ≤ length (now stacks)) × (self .place .mark .col < 2 ^ 31) ⌝ }
+        ensures { λ r. ⌜ Saves (now (stacks .entry)) (now (stacks .exit)) count self ⌝ }
     {
-        if self.allowed {
-            set_key(
-                frames,
-                self.depth,
-                self.requires_key(entries),
-                count,
-                self.place.mark,
-            )
+        if self.simple_key_allowed {
+            let required = self.requires_key(stacks);
+            set_key(stacks, self.flow_level, required, count, self.place.mark)
         }
     }
 
@@ -260,69 +201,43 @@ impl State {
         1024 < here.index - m.index
     }
 
-    // K2: this level's candidate goes. Whether it may: a required one may not (41).
-    pub fn remove_key(self, frames: &mut [u32]) -> bool
-        requires { ⌜ self .depth * 6 + 6 ≤ length (now frames) ⌝ }
-        ensures { λ r. ⌜ Removes (now (frames .entry)) (now (frames .exit)) self r ⌝ }
+    // K2: this level's candidate goes.
+    pub fn remove_key(self, stacks: &mut [u32])
+        requires { ⌜ (self .«flow_level» ≤ 255) × (self .indents .depth ≤ entry-words) × (stack-words ≤ length (now stacks)) ⌝ }
+        ensures { λ r. ⌜ Removes (now (stacks .entry)) (now (stacks .exit)) self ⌝ }
     {
-        if is_required(frames, self.depth) {
-            return false;
-        }
-        clear_key(frames, self.depth);
-        true
+        clear_key(stacks, self.flow_level);
     }
 
-    // K2: the check before each token; in flow no candidate lapses.
-    pub fn lapse_key(self, frames: &mut [u32]) -> bool
-        requires { ⌜ self .depth * 6 + 6 ≤ length (now frames) ⌝ }
-        ensures { λ r. ⌜ Lapses (now (frames .entry)) (now (frames .exit)) self r ⌝ }
+    // K2: the check before each token; in flow no candidate lapses. 41: a required one does.
+    pub fn lapse_key(self, stacks: &mut [u32]) -> Lapsed
+        requires { ⌜ (self .«flow_level» ≤ 255) × (self .indents .depth ≤ entry-words) × (stack-words ≤ length (now stacks)) ⌝ }
+        ensures { λ r. ⌜ Lapses (now (stacks .entry)) (now (stacks .exit)) self r ⌝ }
     {
-        if 0 < self.depth {
-            return true;
+        if 0 < self.flow_level {
+            return Lapsed::Passed;
         }
-        let k = key(frames, self.depth);
-        match k {
-            Candidate::Absent => true,
-            Candidate::Possible(_, _, m) => {
-                if self.is_stale(m) {
-                    return self.remove_key(frames);
-                }
-                true
+        let k = key(stacks, self.flow_level);
+        let Candidate::Possible {
+            required,
+            token_number: _,
+            mark,
+        } = k
+        else {
+            return Lapsed::Passed;
+        };
+        if self.is_stale(mark) {
+            if required {
+                let here = self.place.mark;
+                return Lapsed::Refused(Refusal {
+                    number: 41,
+                    mark: here,
+                });
             }
+            self.remove_key(stacks);
+            return Lapsed::Passed;
         }
-    }
-}
-
-pub fn opening_if(b: bool, o: Opening) -> Opening
-    ensures { λ r. ⌜ r ≡ opening-if b o ⌝ }
-{
-    if b {
-        return o;
-    }
-    Opening::Nothing
-}
-
-// What is said of one token, behind an empty one or not.
-pub fn brief_event(led: bool, o: Opening, t: Token) -> Event
-    ensures { λ r. ⌜ r ≡ brief-event led o t ⌝ }
-{
-    Event {
-        note: Note::Nothing,
-        closed: 0,
-        opening: opening_if(led, o),
-        token: t,
-    }
-}
-
-// What is said of a token behind so many ends of blocks.
-pub fn closing(n: u32, t: Token) -> Event
-    ensures { λ r. ⌜ r ≡ closing-of n t ⌝ }
-{
-    Event {
-        note: Note::Nothing,
-        closed: n,
-        opening: Opening::Nothing,
-        token: t,
+        Lapsed::Passed
     }
 }
 

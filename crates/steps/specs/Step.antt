@@ -1,34 +1,83 @@
--- The second half of a step, held against the definition.
+-- The second half of a step, held against the definition: the token of a choice, and by the choice what it leaves in the lent words and bytes.
 use Prim.Native.Nat.{_<_, _^_, ℕ}
 use mathlib.Core.Bool.{Bool, false, true}
 use mathlib.Core.List.{List}
-use mathlib.Core.Path.{_≡_}
-use lib.ListN.{getD}
-use Rattle.yaml_text.specs.declared.Mark.{Mark}
+use Rattle.yaml_text.specs.Pick.{pick}
 use Rattle.yaml_scan.specs.declared.Choice.{Choice}
 use Rattle.yaml_scan.specs.declared.Choice.the-variants.{AtAnchor, AtBlock, AtByteOrderMark, AtColon, AtComma, AtDash, AtDirective, AtEnd, AtMarker, AtPlain, AtQuestion, AtQuoted, AtTag, BelowIndent, Closes, Opens, Stray}
 use Rattle.yaml_scan.specs.declared.Limits.{Limits}
-use Rattle.yaml_scan.specs.Choice.{choice, fetch, fetch-next}
-use Rattle.chars.specs.View.{Stands}
-use Rattle.reading.specs.Reading.{Indicated}
+use Rattle.yaml_scan.specs.Choice.{choice}
+use Rattle.yaml_scan.specs.Fetch.{fetch, fetch-next}
+use Rattle.rooms.specs.Room.{cleared}
+use Rattle.events.specs.declared.Counts.{Counts}
 use Rattle.states.specs.declared.Fetched.{Fetched}
 use Rattle.states.specs.declared.State.{State}
-use Rattle.states.specs.Fetch.{Fetches, FetchesText, Ready, Written}
+use Rattle.states.specs.Fetch.{FetchesText, Ready}
+use Rattle.states.specs.Key.{removed-words, saved-words}
 use Rattle.states.specs.State.{state-of}
-use Rattle.lexers.specs.Lexeme.{Fetching}
-use Rattle.choices.specs.Choice.{Says}
+use Rattle.choices.specs.Choice.{AsDefined}
+use Rattle.brackets.specs.Words.{bracket-words, comma-words}
+use Rattle.indicators.specs.Words.{colon-words, dash-words, question-words}
 
--- what the second half of a step answers from s, with the lent stacks and bytes at entry and exit
-pub record Steps (limits : Limits) (text entries frames es fs before after : List ℕ) (count used : ℕ) (s : State) (r : Fetched) : Type 0 where
-  pub fetches : Fetches limits text frames es fs count used s (fetch-next limits (state-of text entries frames count s)) r
-  pub written : Written used before after (fetch-next limits (state-of text entries frames count s))
+-- the lent words behind the token of a choice, from the words a, of so many tokens; at a refusal they stay
+abbrev pub choice-words : Limits → Choice → List ℕ → ℕ → State → List ℕ
+choice-words limits AtEnd a count s = a
+choice-words limits AtDirective a count s = removed-words a s
+choice-words limits AtByteOrderMark a count s = removed-words a s
+choice-words limits BelowIndent a count s = a
+choice-words limits Stray a count s = a
+choice-words limits (AtMarker starts) a count s = removed-words a s
+choice-words limits (Opens sequence) a count s = bracket-words sequence a count s
+choice-words limits (Closes sequence) a count s = a
+choice-words limits AtComma a count s = comma-words a s
+choice-words limits AtDash a count s = dash-words limits a s
+choice-words limits AtQuestion a count s = question-words limits a s
+choice-words limits AtColon a count s = colon-words limits a s
+choice-words limits AtTag a count s = saved-words a count s
+choice-words limits AtPlain a count s = saved-words a count s
+choice-words limits (AtAnchor alias) a count s = saved-words a count s
+choice-words limits (AtBlock literal) a count s = saved-words a count s
+choice-words limits (AtQuoted single) a count s = saved-words a count s
 
--- a state that is ready, and what stands at its place
-pub record Chosen (limits : Limits) (text entries frames : List ℕ) (used : ℕ) (s : State) (c : Choice) : Type 0 where
-  pub ready : Ready limits entries frames s
-  pub stands : Stands text (s .place)
+-- the lexemes that hold text
+abbrev pub has-text : Choice → Bool
+has-text AtDirective = true
+has-text AtTag = true
+has-text AtPlain = true
+has-text (AtAnchor alias) = true
+has-text (AtBlock literal) = true
+has-text (AtQuoted single) = true
+has-text AtEnd = false
+has-text AtByteOrderMark = false
+has-text BelowIndent = false
+has-text Stray = false
+has-text (AtMarker starts) = false
+has-text (Opens sequence) = false
+has-text (Closes sequence) = false
+has-text AtComma = false
+has-text AtDash = false
+has-text AtQuestion = false
+has-text AtColon = false
+
+-- the lent bytes where it is refused: a lexeme that holds text leaves zeros behind those used so far, any other leaves them as they are
+abbrev pub choice-bytes : Choice → List ℕ → ℕ → List ℕ
+choice-bytes c before used = pick (has-text c) (cleared before used) before
+
+-- the token of the choice c, from the lent words a to e and the lent bytes `before` to `after`
+abbrev pub FetchesChoice : Limits → List ℕ → List ℕ → List ℕ → List ℕ → List ℕ → Counts → State → Choice → Fetched → Type 0
+FetchesChoice limits text a e before after n s c r =
+    FetchesText limits text a e (choice-words limits c a (n .count) s) before (choice-bytes c before (n .used)) after n s (fetch limits c (state-of text a (n .count) s)) r
+
+-- the same, c being the definition's own choice
+abbrev pub Steps : Limits → List ℕ → List ℕ → List ℕ → List ℕ → List ℕ → Counts → State → Choice → Fetched → Type 0
+Steps limits text a e before after n s c r =
+    FetchesText limits text a e (choice-words limits c a (n .count) s) before (choice-bytes c before (n .used)) after n s (fetch-next limits (state-of text a (n .count) s)) r
+
+-- a state that is ready, and the definition's choice there
+pub record Chosen (limits : Limits) (text stacks : List ℕ) (used : ℕ) (s : State) (c : Choice) : Type 0 where
+  pub ready : Ready limits text stacks s
   pub room : used < 2 ^ 31
-  pub says : Says text s (λ t. choice t) c
+  pub says : AsDefined text s (λ t. choice t) c
 
 -- plain scalars, '-', brackets and ','
 abbrev pub is-brief : Choice → Bool
@@ -49,32 +98,3 @@ is-brief Stray = false
 is-brief (AtMarker starts) = false
 is-brief AtQuestion = false
 is-brief AtColon = false
-
--- what a lexeme that holds text, but no plain scalar, asks of the rest of the text, which begins at the mark m; no other lexeme is one
-abbrev pub Content : List ℕ → Mark → ℕ → Choice → Type 0
-Content rest m used AtDirective = Indicated rest m used
-Content rest m used AtTag = Indicated rest m used × (getD rest 0 0 ≡ 33)
-Content rest m used (AtAnchor alias) = Indicated rest m used
-Content rest m used (AtBlock literal) = Indicated rest m used
-Content rest m used (AtQuoted single) = Indicated rest m used
-Content rest m used AtPlain = ⊥
-Content rest m used AtEnd = ⊥
-Content rest m used AtByteOrderMark = ⊥
-Content rest m used BelowIndent = ⊥
-Content rest m used Stray = ⊥
-Content rest m used (AtMarker starts) = ⊥
-Content rest m used (Opens sequence) = ⊥
-Content rest m used (Closes sequence) = ⊥
-Content rest m used AtComma = ⊥
-Content rest m used AtDash = ⊥
-Content rest m used AtQuestion = ⊥
-Content rest m used AtColon = ⊥
-
-pub record Lexical (rest entries frames : List ℕ) (used : ℕ) (s : State) (c : Choice) : Type 0 where
-  pub fetching : Fetching rest entries frames s
-  pub content : Content rest (s .place .mark) used c
-
--- the token of a choice, whatever the limits are; the entries stay
-abbrev pub FetchesContent : List ℕ → List ℕ → List ℕ → List ℕ → List ℕ → List ℕ → ℕ → ℕ → State → Choice → Fetched → Type 0
-FetchesContent rest entries frames fs before after count used s c r =
-    (limits : Limits) → Ready limits entries frames s → FetchesText limits rest entries frames entries fs before after count used s (λ t. fetch limits c t) r

@@ -2,78 +2,82 @@
 ghost use mathlib.Core.Path.{_≡_};
 ghost use mathlib.Core.Bool.{false, true};
 ghost use Rattle.states.specs.Brief.{brief-fetched};
-ghost use Rattle.steps.specs.Step.{Chosen, FetchesContent, Lexical, Steps, is-brief};
+ghost use Rattle.steps.specs.Step.{Chosen, Steps, has-text, is-brief};
 use brackets::fetch_flow_collection_end;
 use brackets::fetch_flow_collection_start;
 use brackets::fetch_flow_entry;
-use lexers::fetch_anchor;
-use lexers::fetch_block_scalar;
-use lexers::fetch_directive;
-use lexers::fetch_flow_scalar;
-use lexers::fetch_plain_scalar;
-use lexers::fetch_tag;
-use markers::fetch_byte_order_mark;
-use markers::fetch_document_indicator;
-use markers::fetch_stream_end;
+use documents::fetch_byte_order_mark;
+use documents::fetch_document_indicator;
+use documents::fetch_stream_end;
+use events::Counts;
+use indicators::fetch_block_entry;
+use indicators::fetch_key;
+use indicators::fetch_value;
 use states::Brief;
-use states::Counts;
 use states::Fetched;
 use states::State;
 use states::refuse;
-use values::fetch_block_entry;
-use values::fetch_key;
-use values::fetch_value;
+use text_tokens::fetch_anchor;
+use text_tokens::fetch_block_scalar;
+use text_tokens::fetch_directive;
+use text_tokens::fetch_flow_scalar;
+use text_tokens::fetch_plain_scalar;
+use text_tokens::fetch_tag;
 use yaml_scan::Choice;
 use yaml_scan::Limits;
 
-// The lexemes that hold text but plain scalars, given the text from there on.
+// The lexemes that hold text, but plain scalars.
 fn fetch_content(
+    limits: Limits,
     text: &[u8],
     c: Choice,
     s: State,
     n: Counts,
-    entries: &[u32],
-    frames: &mut [u32],
+    stacks: &mut [u32],
     bytes: &mut [u8],
 ) -> Fetched
-    requires { ⌜ Lexical (now text) (now entries) (now frames) (n .used) s c ⌝ }
-    ensures { λ r. ⌜ FetchesContent (now (text .entry)) (now (entries .entry)) (now (frames .entry)) (now (frames .exit)) (now (bytes .entry)) (now (bytes .exit)) (n .count) (n .used) s c r ⌝ }
+    requires { ⌜ Chosen limits (now text) (now stacks) (n .used) s c × (is-brief c ≡ false) × (has-text c ≡ true) ⌝ }
+    ensures { λ r. ⌜ Steps limits (now (text .entry)) (now (stacks .entry)) (now (stacks .exit)) (now (bytes .entry)) (now (bytes .exit)) n s c r ⌝ }
 {
     match c {
-        Choice::AtDirective => fetch_directive(text, s, n, entries, frames, bytes),
-        Choice::AtAnchor(alias) => fetch_anchor(text, alias, s, n, entries, frames, bytes),
-        Choice::AtBlock(literal) => fetch_block_scalar(text, literal, s, n, entries, frames, bytes),
-        Choice::AtQuoted(single) => fetch_flow_scalar(text, single, s, n, entries, frames, bytes),
-        _ => fetch_tag(text, s, n, entries, frames, bytes),
+        Choice::AtDirective => fetch_directive(limits, text, s, n, stacks, bytes),
+        Choice::AtAnchor { alias } => fetch_anchor(limits, text, alias, s, n, stacks, bytes),
+        Choice::AtBlock { literal } => fetch_block_scalar(
+            limits,
+            text,
+            literal,
+            s,
+            n,
+            stacks,
+            bytes,
+        ),
+        Choice::AtQuoted { single } => fetch_flow_scalar(limits, text, single, s, n, stacks, bytes),
+        _ => fetch_tag(limits, text, s, n, stacks, bytes),
     }
 }
 
-// All other lexemes, and the refusals 42 and 43.
+// All lexemes that are not brief, and the refusals 42 and 43.
 pub fn fetch_other(
     limits: Limits,
     text: &[u8],
     c: Choice,
     s: State,
     n: Counts,
-    entries: &mut [u32],
-    frames: &mut [u32],
+    stacks: &mut [u32],
     bytes: &mut [u8],
 ) -> Fetched
-    requires { ⌜ Chosen limits (now text) (now entries) (now frames) (n .used) s c × (is-brief c ≡ false) ⌝ }
-    ensures { λ r. ⌜ Steps limits (now (text .entry)) (now (entries .entry)) (now (frames .entry)) (now (entries .exit)) (now (frames .exit)) (now (bytes .entry)) (now (bytes .exit)) (n .count) (n .used) s r ⌝ }
+    requires { ⌜ Chosen limits (now text) (now stacks) (n .used) s c × (is-brief c ≡ false) ⌝ }
+    ensures { λ r. ⌜ Steps limits (now (text .entry)) (now (stacks .entry)) (now (stacks .exit)) (now (bytes .entry)) (now (bytes .exit)) n s c r ⌝ }
 {
-    let at = s.place.at;
     match c {
-        Choice::AtEnd => fetch_stream_end(s, entries, frames),
-        Choice::AtByteOrderMark => fetch_byte_order_mark(s, entries, frames),
+        Choice::AtEnd => fetch_stream_end(limits, text, s, n, stacks),
+        Choice::AtByteOrderMark => fetch_byte_order_mark(limits, text, s, n, stacks),
         Choice::BelowIndent => refuse(42, s.place.mark),
         Choice::Stray => refuse(43, s.place.mark),
-        Choice::AtMarker(starts) => {
-            fetch_document_indicator(&text[at..], starts, s, entries, frames)
-        }
-        Choice::AtQuestion => fetch_key(limits, s, entries, frames),
-        Choice::AtColon => fetch_value(limits, s, entries, frames),
-        _ => fetch_content(&text[at..], c, s, n, entries, frames, bytes),
+        Choice::AtMarker { starts } => fetch_document_indicator(limits, text, starts, s, n, stacks),
+        Choice::AtQuestion => fetch_key(limits, text, s, stacks),
+        Choice::AtColon => fetch_value(limits, text, s, stacks),
+        _ => fetch_content(limits, text, c, s, n, stacks, bytes),
     }
 }
 
@@ -84,8 +88,8 @@ pub fn is_brief(c: Choice) -> bool
     match c {
         Choice::AtPlain => true,
         Choice::AtDash => true,
-        Choice::Opens(_) => true,
-        Choice::Closes(_) => true,
+        Choice::Opens { sequence: _ } => true,
+        Choice::Closes { sequence: _ } => true,
         Choice::AtComma => true,
         _ => false,
     }
@@ -98,21 +102,24 @@ pub fn fetch_brief(
     c: Choice,
     s: State,
     n: Counts,
-    entries: &mut [u32],
-    frames: &mut [u32],
+    stacks: &mut [u32],
     bytes: &mut [u8],
 ) -> Brief
-    requires { ⌜ Chosen limits (now text) (now entries) (now frames) (n .used) s c × (is-brief c ≡ true) ⌝ }
-    ensures { λ r. ⌜ Steps limits (now (text .entry)) (now (entries .entry)) (now (frames .entry)) (now (entries .exit)) (now (frames .exit)) (now (bytes .entry)) (now (bytes .exit)) (n .count) (n .used) s (brief-fetched r) ⌝ }
+    requires { ⌜ Chosen limits (now text) (now stacks) (n .used) s c × (is-brief c ≡ true) ⌝ }
+    ensures { λ r. ⌜ Steps limits (now (text .entry)) (now (stacks .entry)) (now (stacks .exit)) (now (bytes .entry)) (now (bytes .exit)) n s c (brief-fetched r) ⌝ }
 {
-    let at = s.place.at;
     match c {
-        Choice::AtPlain => fetch_plain_scalar(&text[at..], s, n, entries, frames, bytes),
-        Choice::AtDash => fetch_block_entry(limits, s, entries, frames),
-        Choice::Opens(sequence) => {
-            fetch_flow_collection_start(limits, &text[at..], sequence, s, n.count, entries, frames)
-        }
-        Choice::Closes(sequence) => fetch_flow_collection_end(&text[at..], sequence, s, frames),
-        _ => fetch_flow_entry(&text[at..], s, frames),
+        Choice::AtPlain => fetch_plain_scalar(limits, text, s, n, stacks, bytes),
+        Choice::AtDash => fetch_block_entry(limits, text, s, stacks),
+        Choice::Opens { sequence } => fetch_flow_collection_start(
+            limits,
+            text,
+            sequence,
+            s,
+            n,
+            stacks,
+        ),
+        Choice::Closes { sequence } => fetch_flow_collection_end(limits, text, sequence, s, stacks),
+        _ => fetch_flow_entry(limits, text, s, stacks),
     }
 }

@@ -3,7 +3,7 @@ use Prim.Native.Nat.{_+_, _≤_, ℕ}
 use mathlib.Core.List.{List, _++_}
 use mathlib.Core.Path.{_≡_, ap, refl}
 use native.Mathlib.Omega.{arith}
-use lib.ListN.{length}
+use lib.ListN.{length, replicate}
 use lib.Seq.{sets}
 use Rattle.yaml_text.specs.declared.Mark.{Mark}
 use Rattle.yaml_text.specs.declared.Refusal.{Refusal}
@@ -28,16 +28,16 @@ pub record Told (text before after : List ℕ) (a b : ℕ) (q : Place) (t : tag.
   pub few : a + b ≤ q .at
 
 module _ {text before after : List ℕ} {r : Texts} {d : Read tag.Texts} where
-  pub lays-got : {a b : ℕ} {q : Place} {t : tag.Texts} → r ≡ Got a b q → length after ≡ length before → d ≡ got t → Told text before after a b q t
+  pub lays-got : {a b : ℕ} {q : Place} {t : tag.Texts} → r ≡ Got a b q → d ≡ got t → Told text before after a b q t
       → Lays text before after r d
   unfolding seen-texts laid-texts
-  lays-got e l f h =
-      rw (e, f) (record { same = rw (h .one, h .other, h .place, h .bytes); kept = l; ahead = (h .stands, h .some, h .few) })
+  lays-got e f h =
+      rw (e, f) (record { same = rw (h .one, h .other, h .place, h .bytes); cleared = tt; ahead = (h .stands, h .some, h .few) })
 
-  pub lays-refused : {n : ℕ} {m : Mark} → r ≡ Refused (record { number = n; mark = m }) → length after ≡ length before → d ≡ refused n m
+  pub lays-refused : {n : ℕ} {m : Mark} → r ≡ Refused (record { number = n; mark = m }) → after ≡ replicate (length before) 0 → d ≡ refused n m
       → Lays text before after r d
   unfolding seen-texts laid-texts
-  lays-refused e l f = rw (e, f) (record { same = refl; kept = l; ahead = tt })
+  lays-refused e l f = rw (e, f) (record { same = refl; cleared = l; ahead = tt })
 
 got-is : {x y : Laid} → got x ≡ got y → x ≡ y
 got-is e = cc
@@ -67,3 +67,6 @@ module _ {text before after : List ℕ} {r : Texts} where
   unfolding seen-texts laid-texts
   laid-refused {d = got t} h e = let w = rw e at (h .same) in let z : _≡_ {A = ℕ} 0 1 = cc in absurd (omega arith)
   laid-refused {d = refused n m} h e = let w = rw e at (h .same) in cc
+
+  pub laid-cleared : {d : Read tag.Texts} {f : Refusal} → Lays text before after r d → r ≡ Refused f → after ≡ replicate (length before) 0
+  laid-cleared h e = rw e at (h .cleared)

@@ -2,12 +2,12 @@
 use Prim.Native.Nat.{_+_, _≤_, ℕ}
 use mathlib.Core.List.{List, _++_}
 use mathlib.Core.Path.{_≡_}
-use lib.ListN.{drop, length}
+use lib.ListN.{drop, length, replicate}
 use lib.Seq.{sets}
 use Rattle.yaml_text.specs.declared.Mark.{Mark}
 use Rattle.yaml_text.specs.Char.{'!'}
-use Rattle.yaml_text.specs.Class.{isAlpha}
-use Rattle.yaml_text.specs.Mark.{Run, along, word}
+use Rattle.yaml_text.specs.Class.{is-alpha}
+use Rattle.yaml_text.specs.Mark.{Run, along, run-of}
 use Rattle.yaml_text.specs.Mark as definition
 use Rattle.yaml_text.specs.Refusal.{Read, got, refused}
 use Rattle.yaml_text.specs.Utf8.{chars, encode}
@@ -40,15 +40,19 @@ laid-texts before (got t) =
 laid-texts before (refused k m) = refused k m
 
 -- the place behind stands in the text, and the texts are no longer than what was read
-abbrev pub Ahead : List ℕ → Texts → Type 0
-Ahead text (Got a b q) = Stands text q × (1 ≤ q .at) × (a + b ≤ q .at)
-Ahead text (Refused f) = Unit {0}
+abbrev pub BehindTexts : List ℕ → Texts → Type 0
+BehindTexts text (Got a b q) = Stands text q × (1 ≤ q .at) × (a + b ≤ q .at)
+BehindTexts text (Refused f) = Unit {0}
 
--- of the bytes that a refusal leaves it tells only how many they are
+-- a refusal leaves the lent bytes all zero
+abbrev pub Cleared : List ℕ → List ℕ → Texts → Type 0
+Cleared before after (Got a b q) = Unit {0}
+Cleared before after (Refused f) = after ≡ replicate (length before) 0
+
 pub record Lays (text before after : List ℕ) (r : Texts) (d : Read tag.Texts) : Type 0 where
   pub same : seen-texts text after r ≡ laid-texts before d
-  pub kept : length after ≡ length before
-  pub ahead : Ahead text r
+  pub cleared : Cleared before after r
+  pub ahead : BehindTexts text r
 
 -- what the readers of tags are given: a text that begins with a tag's mark
 pub record Tagged (text : List ℕ) (start : Mark) : Type 0 where
@@ -57,9 +61,9 @@ pub record Tagged (text : List ℕ) (start : Mark) : Type 0 where
 
 -- the word characters behind it
 abbrev pub name-in : List ℕ → Mark → Run
-name-in text start = word isAlpha (along start) (chars (drop 1 text))
+name-in text start = run-of is-alpha (along start) (chars (drop 1 text))
 
 -- which end at p
-pub record Named (text : List ℕ) (start : Mark) (p : Place) : Type 0 where
+pub record NameAt (text : List ℕ) (start : Mark) (p : Place) : Type 0 where
   pub tagged : Tagged text start
   pub name : Spans text (past (first-at start) 1 (along start)) p (name-in text start)

@@ -2,29 +2,27 @@
 ghost use Rattle.yaml_lexeme.specs.Anchor.{scan-anchor};
 ghost use Rattle.chars.specs.View.{view};
 ghost use Rattle.reading.specs.Reading.{Indicated, Lexes, first-at};
-ghost use Rattle.reading.specs.Drafts.{Drafts};
 use chars::mark::Place;
 use reading::Reading;
-use reading::clear_refused;
 use reading::got;
-use reading::refuse;
+use reading::refuse_out;
 use reading::text_at;
 use rooms::copy;
-use words::Class;
-use words::word;
+use runs::Class;
+use runs::run_of;
 use yaml_lexeme::Kind;
 use yaml_text::Mark;
 
-// 27: no name.
-fn read_anchor(text: &[u8], start: Mark, alias: bool, used: u32, out: &mut [u8]) -> Reading
+// From its indicator. 27: no name.
+pub fn scan_anchor(text: &[u8], start: Mark, alias: bool, used: u32, out: &mut [u8]) -> Reading
     requires { ⌜ Indicated (now text) start used ⌝ }
-    ensures { λ r. ⌜ Drafts (now (text .entry)) (now (out .entry)) (now (out .exit)) used r (scan-anchor alias (view (now (text .entry)) (first-at start))) ⌝ }
+    ensures { λ r. ⌜ Lexes (now (text .entry)) (now (out .entry)) (now (out .exit)) used r (scan-anchor alias (view (now (text .entry)) (first-at start))) ⌝ }
 {
     let first = Place { at: 0, mark: start };
-    let e = word(text, first.skip_blank(), Class::Anchor);
+    let e = run_of(text, first.skip_blank(), Class::Anchor);
     let to = e.at;
     if to == 1 {
-        return refuse(27, start);
+        return refuse_out(27, start, out);
     }
     copy(out, 0, &text[1..to]);
     let name = text_at(used, to - 1);
@@ -32,12 +30,4 @@ fn read_anchor(text: &[u8], start: Mark, alias: bool, used: u32, out: &mut [u8])
         return got(Kind::Alias(name), start, e.mark, e);
     }
     got(Kind::Anchor(name), start, e.mark, e)
-}
-
-// From its indicator.
-pub fn scan_anchor(text: &[u8], start: Mark, alias: bool, used: u32, out: &mut [u8]) -> Reading
-    requires { ⌜ Indicated (now text) start used ⌝ }
-    ensures { λ r. ⌜ Lexes (now (text .entry)) (now (out .entry)) (now (out .exit)) used r (scan-anchor alias (view (now (text .entry)) (first-at start))) ⌝ }
-{
-    clear_refused(read_anchor(text, start, alias, used, out), out)
 }

@@ -16,12 +16,13 @@ use Rattle.yaml_scan.specs.declared.Limits.{Limits}
 use Rattle.yaml_scan.specs.Indent.{Indents}
 use Rattle.yaml_scan.specs.State.{Event, State, block-ends, empty-if, ends-with, goes-on, mark-of, put, rest-of, unroll-to}
 use Rattle.yaml_scan.specs.Bracket.{implicit-open}
-use Rattle.yaml_scan.specs.Choice.{all-ends}
-use Rattle.yaml_scan.specs.Scan.{outcome, scanned, settled, unrolled}
+use Rattle.yaml_scan.specs.Document.{all-ends}
+use Rattle.yaml_scan.specs.Scan.{outcome, scanned, unrolled}
 use Rattle.yaml_scan.specs.Moves.{Move, Moves, begins, block-start, closes, goes-in, leaves, opens, pair-end, parts, tells, uses}
 use Rattle.yaml_scan.specs.Steps.{Gapped, Takes, gapped, unrolled-state}
+use Rattle.yaml_scan.specs.Slots.{tokens-of}
 use Rattle.theorems.specs.Induction.{outcome-good}
-use Rattle.theorems.specs.Weigh.{settled-weigh, sum, weigh, weigh-append, weigh-before, weigh-ends, weigh-if, weigh-last, weigh-one}
+use Rattle.theorems.specs.Weigh.{sum, tokens-weigh, weigh, weigh-append, weigh-before, weigh-ends, weigh-if, weigh-last, weigh-one}
 
 -- each token weighs its decoded bytes
 abbrev bytes-of : Token → ℕ
@@ -91,10 +92,10 @@ end-paid s es m =
     rw (m .2) (omega (arith, weigh-last bytes-of (block-ends e (m .0)) t, ends-say e (m .0)))
 
 -- of a whole scan
-pub scan-bytes : (limits : Limits) (bytes : List ℕ) (es : List Event) → outcome limits bytes ≡ scanned es → 2 * length (texts (settled 0 es)) ≤ 3 * length bytes
+pub scan-bytes : (limits : Limits) (bytes : List ℕ) (es : List Event) → outcome limits bytes ≡ scanned es → 2 * length (texts (tokens-of es)) ≤ 3 * length bytes
 unfolding weigh kind-bytes
 scan-bytes limits bytes es e =
     let r = outcome-good limits Good Good gap-paid move-paid end-paid bytes es e in
     let b : size (r .text) ≡ length bytes = ap length (r .decodes .bytes) in
     let k : 2 * said es ≤ 3 * length bytes = rw (r .whole) (omega (arith, r .good)) in
-    omega (arith, settled-weigh bytes-of es, sum-texts (settled 0 es))
+    omega (arith, tokens-weigh bytes-of es, sum-texts (tokens-of es))

@@ -12,3 +12,6 @@ pub mod Opened
 pub mod NestingMoves
 pub mod NestingSteps
 pub mod Nesting
+pub mod ReaderNumbers
+pub mod Numbers
+pub mod Answered

@@ -1,14 +1,15 @@
 -- Laws of nested tokens: one list behind another; the tokens of slots, where events give one more or put some in before one that was given (for Nesting).
 use Prim.Native.Nat.{_+_, _<_, _≤_, suc, zero, ℕ}
-use mathlib.Core.List.{List, [], _++_, _∷_, append-assoc}
+use mathlib.Core.List.{List, [], _++_, _∷_}
 use mathlib.Core.Path.{_≡_, refl}
 use native.Mathlib.Omega.{arith}
 use lib.ListN.{drop, length, length-append}
 use lib.Seq.{drop-append-le}
 use Rattle.yaml_lexeme.specs.Token.{Token}
 use Rattle.yaml_lexeme.specs.Role.{Open, Role, role}
-use Rattle.yaml_scan.specs.State.{Event, put, put-before}
-use Rattle.yaml_scan.specs.Sink.{Slot, flat, note, slot, sunk}
+use Rattle.yaml_scan.specs.State.{Event, put}
+use Rattle.yaml_scan.specs.Slots.{Slot, flat, note, slot, slots}
+use Rattle.yaml_scan.specs.SlotLaws.{flat-append}
 use Rattle.theorems.specs.Nested.{Nested, Turns, closed, done, ended, kept, opened, then}
 
 -- one list behind another
@@ -50,17 +51,6 @@ says-nested (and-put e silent) = then e done
 
 -- the tokens of slots
 
-pub flat-append : (xs ys : List Slot) → flat (xs ++ ys) ≡ flat xs ++ flat ys
-unfolding flat
-flat-append [] ys = refl
-flat-append (x ∷ xs) ys = rw (flat-append xs ys, append-assoc)
-
-pub sunk-append : (xs : List Slot) (es fs : List Event) → sunk xs (es ++ fs) ≡ sunk (sunk xs es) fs
-unfolding sunk
-sunk-append xs [] fs = refl
-sunk-append xs (put t ∷ es) fs = sunk-append (xs ++ (slot t [] ∷ [])) es fs
-sunk-append xs (put-before n ts ∷ es) fs = sunk-append (note n ts xs) es fs
-
 -- the tokens from slot k on
 abbrev pub since : ℕ → List Slot → List Token
 since k xs = flat (drop k xs)
@@ -71,8 +61,8 @@ since-more : {a b c : List Open} (k : ℕ) (xs : List Slot) (t : Token) → k �
 unfolding flat
 since-more k xs t i h e = rw (drop-append-le k xs (slot t [] ∷ []) i, flat-append (drop k xs) (slot t [] ∷ [])) (nested-append h (then e done))
 
-pub since-says : {a b c : List Open} {es : List Event} (k : ℕ) (xs : List Slot) → k ≤ length xs → Nested a (since k xs) b → Says b es c → Nested a (since k (sunk xs es)) c
-unfolding sunk
+pub since-says : {a b c : List Open} {es : List Event} (k : ℕ) (xs : List Slot) → k ≤ length xs → Nested a (since k xs) b → Says b es c → Nested a (since k (slots xs es)) c
+unfolding slots
 since-says k xs i h silent = h
 since-says k xs i h (and-put {t = t} e s) = since-says k (xs ++ (slot t [] ∷ [])) (omega (arith, length-append xs (slot t [] ∷ []))) (since-more k xs t i h e) s
 
@@ -96,8 +86,8 @@ pub clear-last : (xs : List Slot) (t : Token) → Clear (length xs) (xs ++ (slot
 clear-last [] t = refl
 clear-last (x ∷ xs) t = clear-last xs t
 
-pub clear-says : {a b : List Open} {es : List Event} (k : ℕ) (xs : List Slot) → Says a es b → Clear k xs → Clear k (sunk xs es)
-unfolding sunk
+pub clear-says : {a b : List Open} {es : List Event} (k : ℕ) (xs : List Slot) → Says a es b → Clear k xs → Clear k (slots xs es)
+unfolding slots
 clear-says k xs silent h = h
 clear-says k xs (and-put {t = t} e s) h = clear-says k (xs ++ (slot t [] ∷ [])) s (clear-append k xs (slot t [] ∷ []) h)
 

@@ -8,8 +8,9 @@ use Rattle.yaml_text.specs.Char.{'-', ':', '[', ']', space}
 use Rattle.yaml_lexeme.specs.Token.{StreamEnd, Token, empty-token}
 use Rattle.yaml_lexeme.specs.Role.{Open, Role, block, ends, ends-all, flow-mapping, flow-sequence, neither, role, starts}
 use Rattle.yaml_scan.specs.declared.Limits.{Limits}
-use Rattle.yaml_scan.specs.Scan.{Outcome, outcome, scanned, settled, spent, standard, stopped}
+use Rattle.yaml_scan.specs.Scan.{Outcome, outcome, scanned, spent, standard, stopped}
 use Rattle.yaml_scan.specs.Open.{all-open}
+use Rattle.yaml_scan.specs.Slots.{tokens-of}
 use Rattle.theorems.specs.Accepted.{Accepts}
 use Rattle.theorems.specs.Nested.{Nested, Turns, done, ended, then}
 use Rattle.theorems.specs.NestedLaws.{nested-append, nested-split}
@@ -41,7 +42,7 @@ at-stream-end limits bytes ts us vs t a e k = let s = nested-split us (rw e at (
 
 -- the starts and ends of a text's list
 abbrev roles : Outcome → List Role
-roles (scanned es) = map (λ (t : Token). role (t .kind)) (settled 0 es)
+roles (scanned es) = map (λ (t : Token). role (t .kind)) (tokens-of es)
 roles (stopped n m) = []
 roles spent = []
 

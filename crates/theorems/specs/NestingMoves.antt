@@ -22,8 +22,9 @@ use Rattle.yaml_scan.specs.IndentLaws.{Rises, Rolls, Same, blocks-of, innermost
 use Rattle.yaml_scan.specs.Keys.{set-key, top-key}
 use Rattle.yaml_scan.specs.State.{Event, State, block-ends, empty-if, in-flow, mark-of, on-level, put, put-before, puts, save-key, unroll-to}
 use Rattle.yaml_scan.specs.Bracket.{closes-level, implicit-open, new-entry}
-use Rattle.yaml_scan.specs.Choice.{all-ends}
-use Rattle.yaml_scan.specs.Sink.{Slot, note, sunk, sunk-length}
+use Rattle.yaml_scan.specs.Document.{all-ends}
+use Rattle.yaml_scan.specs.Slots.{Slot, note, slots}
+use Rattle.yaml_scan.specs.SlotLaws.{slots-length}
 use Rattle.yaml_scan.specs.Moves.{Begins, Enters, Move, Tidy, Within, begins, block-start, bracket, closes, goes-in, leaves, opens, parts, tells, uses}
 use Rattle.theorems.specs.Nested.{Nested, closed, done, kept, opened, then}
 use Rattle.theorems.specs.NestedLaws.{Leads, and-put, says-append, says-one, silent}
@@ -73,10 +74,10 @@ AtEdge s = s .levels ≡ [] → innermost (s .indents) ≤ edge-of (mark-of s)
 
 -- the slots behind events, at the place q
 abbrev Next : List Slot → List Event → List Open → Indents → Place → List Candidate → List Level → Type 0
-Next xs es u i q ks ls = Built i (q .mark) (sunk xs es) u (length (sunk xs es)) ks ls
+Next xs es u i q ks ls = Built i (q .mark) (slots xs es) u (length (slots xs es)) ks ls
 
-more : (xs : List Slot) (es : List Event) → length xs ≤ length (sunk xs es)
-more xs es = omega (arith, sunk-length xs es)
+more : (xs : List Slot) (es : List Event) → length xs ≤ length (slots xs es)
+more xs es = omega (arith, slots-length xs es)
 
 -- the level that a bracket closes is of its kind
 level-kind : (sequence b : Bool) → pick sequence b (not b) ≡ true → b ≡ sequence
@@ -96,7 +97,7 @@ at-zero (outside h s l) = l
 
 -- the blocks that are unrolled end
 pub ends-lead : {es : List Event} (edge : ℕ) (i : Indents) (xs : List Slot) → Turned (replicate (unroll edge (i .indent) (i .entries) .ended) block) es [] → Leads 0 (blocks i) xs
-    → Leads 0 (blocks (unroll edge (i .indent) (i .entries) .indents)) (sunk xs es)
+    → Leads 0 (blocks (unroll edge (i .indent) (i .entries) .indents)) (slots xs es)
 ends-lead edge i xs e h =
     let u = unroll edge (i .indent) (i .entries) in
     let b = replicate (u .ended) block in
@@ -159,8 +160,8 @@ module _ (s : State) (t : Token) (q : Place) (xs : List Slot) (f : Fits (s .plac
   saves : {i : Indents} (u : List Open) → Stands s xs → AtEdge s → Same (s .indents) i → Turned [] (put t ∷ []) u → Next xs (put t ∷ []) u i q (save-key s .keys) (s .levels)
   unfolding save-key puts
   saves {i} u h edge same e =
-      on-pick (λ (v : State). Next xs (put t ∷ []) u i q (v .keys) (s .levels)) (s .allowed)
-      (λ _. rw (h .counted) (built-saved u t xs _ (mark-of s) (omega (arith, sunk-length xs (put t ∷ []))) e (goes-to same f)
+      on-pick (λ (v : State). Next xs (put t ∷ []) u i q (v .keys) (s .levels)) (s .simple-key-allowed)
+      (λ _. rw (h .counted) (built-saved u t xs _ (mark-of s) (omega (arith, slots-length xs (put t ∷ []))) e (goes-to same f)
       (λ z. (omega (arith, edge z, same .at), f .line-on, f .col-on)) (h .built)))
       (λ _. built-says [] u xs (more xs (put t ∷ [])) e (goes-to same f) (h .built))
 
@@ -193,7 +194,7 @@ module _ (s : State) (t : Token) (q : Place) (xs : List Slot) (f : Fits (s .plac
 
   begins-before : {pair required : Bool} {n : ℕ} {m : Mark} {r : Rolled} {ls : List Level} → role (t .kind) ≡ neither → Begins s q pair r ls → top-key (s .keys) ≡ Possible required n m → Stands s xs
       → Next xs (put-before n (goes-in pair (r .starts) m) ∷ put t ∷ []) [] (r .indents) q (set-key Absent (s .keys)) ls
-  unfolding sunk in-flow
+  unfolding slots in-flow
   begins-before {pair} {n = n} {m = m} {r = r} e b k h =
       let w = begun pair (r .starts) in
       let ts = goes-in pair (r .starts) m in

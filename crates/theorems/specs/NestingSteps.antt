@@ -20,15 +20,16 @@ use Rattle.yaml_scan.specs.Indent.{Indents, unroll}
 use Rattle.yaml_scan.specs.IndentLaws.{Rises, Same, open-blocks, same-refl, unroll-all, unroll-blocks, unroll-none, unroll-rises, unroll-within}
 use Rattle.yaml_scan.specs.Keys.{top-key}
 use Rattle.yaml_scan.specs.State.{Event, State, block-ends, ends-with, goes-on, in-flow, mark-of, put, unroll-to}
-use Rattle.yaml_scan.specs.Scan.{outcome, scanned, settled, unrolled}
+use Rattle.yaml_scan.specs.Scan.{outcome, scanned, unrolled}
 use Rattle.yaml_scan.specs.Candidates.{Over}
-use Rattle.yaml_scan.specs.Sink.{Slot, flat, slot, sunk, sunk-length, sunk-settled}
+use Rattle.yaml_scan.specs.Slots.{Slot, flat, slot, slots, tokens-of}
+use Rattle.yaml_scan.specs.SlotLaws.{flat-append, slots-append, slots-length}
 use Rattle.yaml_scan.specs.Moves.{Move, Moves, begins, closes, leaves, opens, parts, tells, uses}
 use Rattle.yaml_scan.specs.Steps.{Gapped, Takes, gapped, inside, lapses, stays, unrolled-state}
 use Rattle.yaml_scan.specs.Runs.{puts-ends}
 use Rattle.theorems.specs.Induction.{outcome-good}
 use Rattle.theorems.specs.Nested.{Nested, done, kept, then}
-use Rattle.theorems.specs.NestedLaws.{flat-append, silent, sunk-append}
+use Rattle.theorems.specs.NestedLaws.{silent}
 use Rattle.theorems.specs.Opened.{Built, blocks, built-says, built-top, built-without, outside}
 use Rattle.theorems.specs.NestingMoves.{AtEdge, Stands, at-zero, ends-lead, ends-turn, goes-to, move-builds, zero-level}
 
@@ -45,7 +46,7 @@ calm m (Possible required n k) h = h
 
 -- the same slots, further on
 further : {i : Indents} {p q : Place} {xs : List Slot} {u : List Open} {n : ℕ} {ks : List Candidate} {ls : List Level} → Fits p q → Built i (p .mark) xs u n ks ls → Built i (q .mark) xs u n ks ls
-unfolding sunk
+unfolding slots
 further {xs = xs} {u = u} {n = n} f h = built-says {es = []} u u xs (le-refl n) (λ os. silent) (goes-to (same-refl _) f) h
 
 gap-stands : {s t : State} {xs : List Slot} → Gapped s t → Stands s xs → Stands t xs × (in-flow t ≡ false → Calm (mark-of t) (top-key (t .keys)))
@@ -59,9 +60,9 @@ gap-stands {s} (gapped f spares (stays e k)) h = (record { counted = h .counted;
 -- at level 0; while a candidate is left none ends
 ends-build : {xs : List Slot} {ks : List Candidate} (i : Indents) (p : Place) (c : Candidate) → Calm (p .mark) c → Built i (p .mark) xs [] (length xs) (c ∷ ks) []
     → let u = unroll (edge-of (p .mark)) (i .indent) (i .entries) in
-    let ys = sunk xs (block-ends (u .ended) (p .mark)) in
+    let ys = slots xs (block-ends (u .ended) (p .mark)) in
     Built (u .indents) (p .mark) ys [] (length ys) (c ∷ ks) []
-unfolding sunk
+unfolding slots
 ends-build {xs} i p Absent k (outside h s l) =
     outside tt tt (ends-lead (edge-of (p .mark)) i xs (ends-turn (unroll (edge-of (p .mark)) (i .indent) (i .entries) .ended) (p .mark)) l)
 ends-build {xs} i p (Possible required n m) k (outside h s l) =
@@ -73,7 +74,7 @@ ends-build {xs} i p (Possible required n m) k (outside h s l) =
 
 zero-build : {i : Indents} {xs : List Slot} {ks : List Candidate} (p : Place) → Calm (p .mark) (top-key ks) → Built i (p .mark) xs [] (length xs) ks []
     → let u = unroll (edge-of (p .mark)) (i .indent) (i .entries) in
-    let ys = sunk xs (block-ends (u .ended) (p .mark)) in
+    let ys = slots xs (block-ends (u .ended) (p .mark)) in
     Built (u .indents) (p .mark) ys [] (length ys) ks []
 unfolding top-key
 zero-build {i} p k (outside {c = c} h s l) = ends-build i p c k (outside {c = c} h s l)
@@ -91,15 +92,15 @@ unfolding in-flow
 not-zero t e z = true-false (sym (rw z at e))
 
 unrolled-stands : (t : State) (xs : List Slot) → Stands t xs → (in-flow t ≡ false → Calm (mark-of t) (top-key (t .keys)))
-    → Stands (unrolled-state t) (sunk xs (block-ends (unrolled t .ended) (mark-of t))) × AtEdge (unrolled-state t)
-unfolding sunk
+    → Stands (unrolled-state t) (slots xs (block-ends (unrolled t .ended) (mark-of t))) × AtEdge (unrolled-state t)
+unfolding slots
 unrolled-stands t xs h c =
     let n = unroll-to (edge-of (mark-of t)) t .ended in
     by-test (in-flow t)
     (λ e. rw (unrolled-in t e) (record { counted = omega (arith, h .counted); rises = h .rises; built = h .built }, λ z. absurd (not-zero t e z)))
     (λ e. rw (unrolled-out t e) (
       record {
-        counted = omega (arith, h .counted, sunk-length xs (block-ends n (mark-of t)), puts-ends n (mark-of t));
+        counted = omega (arith, h .counted, slots-length xs (block-ends n (mark-of t)), puts-ends n (mark-of t));
         rises = unroll-rises _ (t .indents .indent) (t .indents .entries) (h .rises);
         built = rw (zero-level t e) (zero-build (t .place) (c e) (rw (zero-level t e) at (h .built)));
       },
@@ -113,16 +114,16 @@ abbrev pub Closes : List Token → Type 0
 Closes ts = (us : List Token) × (m : Mark) × (ts ≡ us ++ (empty-token StreamEnd m ∷ [])) × Nested [] us []
 
 abbrev Good : State → List Event → Type 0
-Good s fs = (xs : List Slot) → Stands s xs → Closes (flat (sunk xs fs))
+Good s fs = (xs : List Slot) → Stands s xs → Closes (flat (slots xs fs))
 
 abbrev Ready : State → List Event → Type 0
-Ready s fs = (xs : List Slot) → Stands s xs → AtEdge s → Closes (flat (sunk xs fs))
+Ready s fs = (xs : List Slot) → Stands s xs → AtEdge s → Closes (flat (slots xs fs))
 
 gap-nested : (s t : State) (fs : List Event) → Gapped s t → Ready (unrolled-state t) fs → Good s (block-ends (unrolled t .ended) (mark-of t) ++ fs)
 gap-nested s t fs g r xs h =
     let k = gap-stands g h in
     let b = unrolled-stands t xs (k .0) (k .1) in
-    rw (sunk-append xs (block-ends (unrolled t .ended) (mark-of t)) fs) (r (sunk xs (block-ends (unrolled t .ended) (mark-of t))) (b .0) (b .1))
+    rw (slots-append xs (block-ends (unrolled t .ended) (mark-of t)) fs) (r (slots xs (block-ends (unrolled t .ended) (mark-of t))) (b .0) (b .1))
 
 move-rises : {s : State} {t : Token} {q : Place} {es : List Event} {i : Indents} {ks : List Candidate} {ls : List Level} → Move s t q es i ks ls → Rises (s .indents) → Rises i
 move-rises (tells e same) r = same .rises r
@@ -135,27 +136,27 @@ move-rises (uses e b k) r = b .rolls .rises r
 
 move-nested : (s u : State) (es fs : List Event) → Moves s (goes-on es u) → Takes s (goes-on es u) → Good u fs → Ready s (es ++ fs)
 move-nested s u es fs m k g xs h edge =
-    rw (sunk-append xs es fs) (g (sunk xs es) (record {
-      counted = omega (arith, m .3, h .counted, sunk-length xs es);
+    rw (slots-append xs es fs) (g (slots xs es) (record {
+      counted = omega (arith, m .3, h .counted, slots-length xs es);
       rises = move-rises (m .2) (h .rises);
       built = move-builds s (m .0) (u .place) xs (k .1) (m .2) h edge;
     }))
 
 end-nested : (s : State) (es : List Event) → Moves s (ends-with es) → Ready s es
-unfolding sunk flat
+unfolding slots flat
 end-nested s es m xs h edge =
     let t = empty-token StreamEnd (m .0) in
     let bs = block-ends (unroll-to 0 s .ended) (m .0) in
     let l = ends-lead 0 (s .indents) xs (ends-turn (unroll-to 0 s .ended) (m .0)) (at-zero (rw (zero-level s (m .1)) at (h .built))) [] in (
-      flat (sunk xs bs),
+      flat (slots xs bs),
       m .0,
-      rw (m .2, sunk-append xs bs (put t ∷ []), flat-append (sunk xs bs) (slot t [] ∷ [])),
+      rw (m .2, slots-append xs bs (put t ∷ []), flat-append (slots xs bs) (slot t [] ∷ [])),
       rw (unroll-all (s .indents .indent) (s .indents .entries) (h .rises)) at l,
     )
 
-pub scan-nested : (limits : Limits) (bytes : List ℕ) (es : List Event) → outcome limits bytes ≡ scanned es → Closes (settled 0 es)
-unfolding sunk flat role open-blocks
+pub scan-nested : (limits : Limits) (bytes : List ℕ) (es : List Event) → outcome limits bytes ≡ scanned es → Closes (tokens-of es)
+unfolding slots flat role open-blocks
 scan-nested limits bytes es e =
     let r = outcome-good limits Good Ready gap-nested move-nested end-nested bytes es e in
     let xs : List Slot = slot (empty-token StreamStart origin) [] ∷ [] in
-    rw (← (sunk-settled es), r .whole) (r .good xs (record { counted = refl; rises = tt; built = outside tt tt (λ os. then kept done) }))
+    rw (r .whole) (r .good xs (record { counted = refl; rises = tt; built = outside tt tt (λ os. then kept done) }))

@@ -19,7 +19,7 @@ use Rattle.yaml_scan.specs.Indent.{Indents}
 use Rattle.yaml_scan.specs.IndentLaws.{blocks-of, innermost}
 use Rattle.yaml_scan.specs.Keys.{set-key, top-key}
 use Rattle.yaml_scan.specs.State.{Event, put}
-use Rattle.yaml_scan.specs.Sink.{Slot, flat, note, slot, sunk}
+use Rattle.yaml_scan.specs.Slots.{Slot, flat, note, slot, slots}
 use Rattle.yaml_scan.specs.Moves.{Tidy, bracket}
 use Rattle.theorems.specs.Nested.{Nested}
 use Rattle.theorems.specs.NestedLaws.{Clear, Leads, Says, clear-last, clear-noted, clear-says, clear-within, says-nested, silent, since-noted, since-says}
@@ -60,10 +60,10 @@ Turned u es v = (os : List Open) → Says (u ++ os) es (v ++ os)
 pub turned-over : {es : List Event} (u v x : List Open) → Turned u es v → Turned (u ++ x) es (v ++ x)
 turned-over u v x e os = rw (append-assoc u x os, append-assoc v x os) (e (x ++ os))
 
-pub leads-says : {es : List Event} (k : ℕ) (u v : List Open) (xs : List Slot) → k ≤ length xs → Turned u es v → Leads k u xs → Leads k v (sunk xs es)
+pub leads-says : {es : List Event} (k : ℕ) (u v : List Open) (xs : List Slot) → k ≤ length xs → Turned u es v → Leads k u xs → Leads k v (slots xs es)
 leads-says k u v xs b e h os = since-says k xs b (h os) (e os)
 
-since-turned : {es : List Event} {n n' : ℕ} (u v : List Open) (xs : List Slot) (c : Candidate) → n ≤ n' → Turned u es v → Since n u xs c → Since n' v (sunk xs es) c
+since-turned : {es : List Event} {n n' : ℕ} (u v : List Open) (xs : List Slot) (c : Candidate) → n ≤ n' → Turned u es v → Since n u xs c → Since n' v (slots xs es) c
 since-turned u v xs Absent b e h = tt
 since-turned u v xs (Possible required k m) b e h =
     (omega (arith, h .0), clear-says k xs (e []) (h .1), leads-says k u v xs (omega (arith, clear-within k xs (h .1))) e (h .2))
@@ -78,9 +78,9 @@ pub record Goes (i : Indents) (m : Mark) (i' : Indents) (m' : Mark) : Type 0 whe
   pub stays : (c : Candidate) → Stays i m c → Stays i' m' c
 
 pub built-says : {i i' : Indents} {m m' : Mark} {n n' : ℕ} {ks : List Candidate} {ls : List Level} {es : List Event} (u v : List Open) (xs : List Slot) → n ≤ n'
-    → Turned u es v → Goes i m i' m' → Built i m xs u n ks ls → Built i' m' (sunk xs es) v n' ks ls
+    → Turned u es v → Goes i m i' m' → Built i m xs u n ks ls → Built i' m' (slots xs es) v n' ks ls
 built-says {i} {i'} {es = es} u v xs b e g (outside {c = c} h s l) =
-    let k : Leads 0 (v ++ blocks i') (sunk xs es) = rw (g .same-blocks) (leads-says 0 (u ++ blocks i) (v ++ blocks i) xs (omega arith) (turned-over u v (blocks i) e) l) in
+    let k : Leads 0 (v ++ blocks i') (slots xs es) = rw (g .same-blocks) (leads-says 0 (u ++ blocks i) (v ++ blocks i) xs (omega arith) (turned-over u v (blocks i) e) l) in
     outside (since-turned u v xs c b e h) (g .stays c s) k
 built-says {n = n} {n' = n'} u v xs b e g (inside {c = c} {l = l} h t k) =
     inside (since-turned u v xs c b e h) t (built-says (u ++ held l) (v ++ held l) xs (below-less n n' c b) (turned-over u v (held l) e) g k)
@@ -94,7 +94,7 @@ goes-nowhere : {i : Indents} {m : Mark} → Goes i m i m
 goes-nowhere = record { same-blocks = refl; stays = λ _ h. h }
 
 built-more : {i : Indents} {m : Mark} {xs : List Slot} {u : List Open} {n n' : ℕ} {ks : List Candidate} {ls : List Level} → n ≤ n' → Built i m xs u n ks ls → Built i m xs u n' ks ls
-unfolding sunk
+unfolding slots
 built-more {xs = xs} {u = u} b h = built-says {es = []} u u xs b (λ os. silent) goes-nowhere h
 
 -- without the candidate of this level, or with it written out
@@ -110,8 +110,8 @@ built-top (inside h t k) = inside h t k
 
 -- a token is given, and may be the next candidate
 next-since : {n : ℕ} (u : List Open) (t : Token) (xs : List Slot) (required : Bool) (k : Mark) → length xs < n → Turned [] (put t ∷ []) u
-    → Since n u (sunk xs (put t ∷ [])) (Possible required (length xs) k)
-unfolding sunk flat
+    → Since n u (slots xs (put t ∷ [])) (Possible required (length xs) k)
+unfolding slots flat
 next-since u t xs required k b e = (b, clear-last xs t, λ os. rw (drop-append-seam xs (slot t [] ∷ [])) (says-nested (e os)))
 
 built-with : {i : Indents} {m : Mark} {xs : List Slot} {u : List Open} {n : ℕ} {ks : List Candidate} {ls : List Level} (c : Candidate) → Since n u xs c → (ls ≡ [] → Stays i m c)
@@ -121,7 +121,7 @@ built-with c h s (inside _ t k) = inside h t k
 
 pub built-saved : {i i' : Indents} {m m' : Mark} {n : ℕ} {ks : List Candidate} {ls : List Level} (u : List Open) (t : Token) (xs : List Slot) (required : Bool) (k : Mark)
     → length xs < n → Turned [] (put t ∷ []) u → Goes i m i' m' → (ls ≡ [] → Stays i' m' (Possible required (length xs) k))
-    → Built i m xs [] (length xs) ks ls → Built i' m' (sunk xs (put t ∷ [])) u n (set-key (Possible required (length xs) k) ks) ls
+    → Built i m xs [] (length xs) ks ls → Built i' m' (slots xs (put t ∷ [])) u n (set-key (Possible required (length xs) k) ks) ls
 built-saved u t xs required k b e g s h =
     built-with (Possible required (length xs) k) (next-since u t xs required k b e) s (built-says [] u xs (le-refl (length xs)) e g (built-without h))
 

@@ -9,17 +9,18 @@ use lib.ListN.{length}
 use borrow.Author.Tests.{le-ltb}
 use Rattle.yaml_text.specs.Utf8.{chars}
 use Rattle.yaml_lexeme.specs.Token.{Token, texts}
+use Rattle.yaml_lexeme.specs.Record.{record-words}
 use Rattle.yaml_scan.specs.declared.Limits.{Limits}
 use Rattle.yaml_scan.specs.Scan.{accepted, answer, lent}
 use Rattle.theorems.specs.Accepted.{Accepts, list-answered}
 use Rattle.theorems.specs.Tokens as tokens
 use Rattle.theorems.specs.Bytes as bytes
 
-pub enough : (limits : Limits) (text : List ℕ) (ts : List Token) (wordsRoom bytesRoom : ℕ) → Accepts limits text ts
-    → (2 * length (chars text) + 3) * 12 ≤ wordsRoom → 3 * length text / 2 ≤ bytesRoom
-    → answer limits text wordsRoom bytesRoom .verdict ≡ accepted (length ts) (length (texts ts))
+pub enough : (limits : Limits) (text : List ℕ) (ts : List Token) (words-room bytes-room : ℕ) → Accepts limits text ts
+    → (2 * length (chars text) + 3) * record-words ≤ words-room → 3 * length text / 2 ≤ bytes-room
+    → answer limits text words-room bytes-room .verdict ≡ accepted (length ts) (length (texts ts))
 unfolding lent
 enough limits text ts w b a h k =
-    let t : length ts ≤ w / 12 = omega (arith, tokens.at-most limits text ts a) in
+    let t : length ts ≤ w / record-words = omega (arith, tokens.at-most limits text ts a) in
     let d : length (texts ts) ≤ b = omega (arith, bytes.at-most limits text ts a) in
-    rw (list-answered limits text ts a w b, lent, le-ltb (w / 12) (length ts) t, le-ltb b (length (texts ts)) d)
+    rw (list-answered limits text ts a w b, lent, le-ltb (w / record-words) (length ts) t, le-ltb b (length (texts ts)) d)

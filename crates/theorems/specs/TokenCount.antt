@@ -9,7 +9,7 @@ use native.Mathlib.Omega.{arith}
 use lib.ListN.{drop, length}
 use Rattle.yaml_text.specs.declared.Mark.{Mark}
 use Rattle.yaml_text.specs.Utf8.{chars}
-use Rattle.yaml_text.specs.Class.{isBlankOrBreakz, isZ}
+use Rattle.yaml_text.specs.Class.{is-blank-or-breakz, is-z}
 use Rattle.yaml_text.specs.Mark.{Place, look}
 use Rattle.yaml_text.specs.Test.{by-pick}
 use Rattle.yaml_text.specs.DecodeLaws.{NoNul, no-nul-at}
@@ -25,12 +25,13 @@ use Rattle.yaml_scan.specs.IndentLaws.{blocks-of, open-blocks, unroll-blocks}
 use Rattle.yaml_scan.specs.Keys.{set-key, top-key}
 use Rattle.yaml_scan.specs.State.{Event, State, allow, at-place, block-ends, empty-if, ends-with, goes-on, in-flow, mark-of, put, rest-of, save-key, unroll-to, with-keys}
 use Rattle.yaml_scan.specs.Bracket.{implicit-open}
-use Rattle.yaml_scan.specs.Choice.{all-ends}
-use Rattle.yaml_scan.specs.Scan.{outcome, scanned, settled, unrolled}
+use Rattle.yaml_scan.specs.Document.{all-ends}
+use Rattle.yaml_scan.specs.Scan.{outcome, scanned, unrolled}
 use Rattle.yaml_scan.specs.Moves.{Begins, Enters, Move, Moves, begins, block-start, closes, goes-in, leaves, opens, pair-end, parts, tells, uses}
 use Rattle.yaml_scan.specs.Steps.{Gapped, Lapses, Takes, gapped, inside, lapses, one-most, stays, unrolled-blocks, unrolled-state}
+use Rattle.yaml_scan.specs.Slots.{tokens-of}
 use Rattle.theorems.specs.Induction.{outcome-good}
-use Rattle.theorems.specs.Weigh.{settled-weigh, sum, weigh, weigh-append, weigh-before, weigh-ends, weigh-if, weigh-last, weigh-one}
+use Rattle.theorems.specs.Weigh.{sum, tokens-weigh, weigh, weigh-append, weigh-before, weigh-ends, weigh-if, weigh-last, weigh-one}
 
 -- each token weighs 1
 abbrev one : Token → ℕ
@@ -64,7 +65,7 @@ possible-same (k ∷ ks) = omega arith
 possible-saved : (s : State) → possible (save-key s .keys) ≤ 1 + possible (s .keys)
 unfolding save-key possible
 possible-saved s =
-    by-pick (λ (u : State). possible (u .keys) ≤ 1 + possible (s .keys)) (s .allowed) _ _
+    by-pick (λ (u : State). possible (u .keys) ≤ 1 + possible (s .keys)) (s .simple-key-allowed) _ _
     (omega (arith, possible-drop (s .keys))) (omega arith)
 
 -- a candidate that is used up was possible
@@ -79,10 +80,10 @@ abbrev funds : State → ℕ
 funds s = 2 + 2 * left (s .place) + blocks-of (s .indents) + possible (s .keys)
 
 abbrev Good : State → List Event → Type 0
-Good s fs = NoNul (rest-of s) → total fs + one-if (isBlankOrBreakz (look (s .place))) ≤ funds s
+Good s fs = NoNul (rest-of s) → total fs + one-if (is-blank-or-breakz (look (s .place))) ≤ funds s
 
 abbrev Ready : State → List Event → Type 0
-Ready s fs = NoNul (rest-of s) → total fs + one-if (isZ (look (s .place))) ≤ funds s
+Ready s fs = NoNul (rest-of s) → total fs + one-if (is-z (look (s .place))) ≤ funds s
 
 lapses-possible : {s : State} {m : Mark} {ks : List Candidate} → Lapses s m ks → possible ks ≤ possible (s .keys)
 unfolding possible
@@ -99,13 +100,13 @@ gap-paid s t fs (gapped {p = p} {leads = b} {a = a} {ks = ks} f spares l) h n =
 
 -- a start costs its end too: in flow only a pair begins, and at level 0 only a block, before blank, break or end
 begins-most : {s : State} {q : Place} {pair : Bool} {r : Rolled} {ls : List Level} → Begins s q pair r ls
-    → one-if pair + 2 * one-if (r .starts) ≤ 1 + one-if (isBlankOrBreakz (look q))
+    → one-if pair + 2 * one-if (r .starts) ≤ 1 + one-if (is-blank-or-breakz (look q))
 unfolding in-flow
 begins-most {s} {q} {pair} {r} {ls} b = by-levels (s .levels) (b .rolls .flows) (b .spaced) (b .enters)
   where
     by-levels : (l : List Level) → (elim l [ [] ↦ false | x ∷ xs ↦ true ] ≡ true → r ≡ record { starts = false; indents = s .indents })
-        → (elim l [ [] ↦ false | x ∷ xs ↦ true ] ≡ false → isBlankOrBreakz (look q) ≡ true) → Enters pair l ls
-        → one-if pair + 2 * one-if (r .starts) ≤ 1 + one-if (isBlankOrBreakz (look q))
+        → (elim l [ [] ↦ false | x ∷ xs ↦ true ] ≡ false → is-blank-or-breakz (look q) ≡ true) → Enters pair l ls
+        → one-if pair + 2 * one-if (r .starts) ≤ 1 + one-if (is-blank-or-breakz (look q))
     by-levels [] f g e = rw (g refl, e .1) (omega (arith, one-most (r .starts)))
     by-levels (x ∷ xs) f g e = rw (f refl) (omega (arith, one-most pair))
 
@@ -123,7 +124,7 @@ put-in false true m = refl
 put-in false false m = refl
 
 move-cost : {s : State} {t : Token} {q : Place} {es : List Event} {i : Indents} {ks : List Candidate} {ls : List Level} → Move s t q es i ks ls
-    → total es + blocks-of i + possible ks ≤ 2 + blocks-of (s .indents) + possible (s .keys) + one-if (isBlankOrBreakz (look q))
+    → total es + blocks-of i + possible ks ≤ 2 + blocks-of (s .indents) + possible (s .keys) + one-if (is-blank-or-breakz (look q))
 unfolding possible
 move-cost {s} {t} (tells e same) = omega (arith, weigh-one one t, same .blocks, possible-saved s)
 move-cost {s} {t} (leaves e f) =
@@ -162,19 +163,19 @@ move-cost {s} {t} (uses {pair = pair} {n = n} {m = m} {r = r} e b k) =
 
 move-paid : (s u : State) (es fs : List Event) → Moves s (goes-on es u) → Takes s (goes-on es u) → Good u fs → Ready s (es ++ fs)
 move-paid s u es fs m k h n =
-    let z : one-if (isZ (look (s .place))) ≡ 0 = rw (no-nul-at (rest-of s) 0 n (omega (arith, k .0))) in
+    let z : one-if (is-z (look (s .place))) ≡ 0 = rw (no-nul-at (rest-of s) 0 n (omega (arith, k .0))) in
     omega (arith, h (fits-no-nul (k .1) n), weigh-append one es fs, move-cost (m .2), k .0)
 
 end-paid : (s : State) (es : List Event) → Moves s (ends-with es) → Ready s es
 end-paid s es m n =
     let e = unroll-to 0 s .ended in
     let t = empty-token StreamEnd (m .0) in
-    rw (m .2) (omega (arith, weigh-last one (block-ends e (m .0)) t, weigh-ends one e (m .0) 1 refl, unroll-blocks 0 (s .indents .indent) (s .indents .entries), one-most (isZ (look (s .place)))))
+    rw (m .2) (omega (arith, weigh-last one (block-ends e (m .0)) t, weigh-ends one e (m .0) 1 refl, unroll-blocks 0 (s .indents .indent) (s .indents .entries), one-most (is-z (look (s .place)))))
 
 -- of a whole scan
-pub scan-tokens : (limits : Limits) (bytes : List ℕ) (es : List Event) → outcome limits bytes ≡ scanned es → length (settled 0 es) ≤ 2 * length (chars bytes) + 3
+pub scan-tokens : (limits : Limits) (bytes : List ℕ) (es : List Event) → outcome limits bytes ≡ scanned es → length (tokens-of es) ≤ 2 * length (chars bytes) + 3
 unfolding weigh possible open-blocks
 scan-tokens limits bytes es e =
     let r = outcome-good limits Good Ready gap-paid move-paid end-paid bytes es e in
     let k : total es ≤ 2 * length (chars bytes) + 3 = rw (r .whole, ← (r .decodes .same)) (omega (arith, r .good (r .decodes .no-nul))) in
-    omega (arith, settled-weigh one es, sum-length (settled 0 es))
+    omega (arith, tokens-weigh one es, sum-length (tokens-of es))

@@ -9,8 +9,7 @@ use Rattle.yaml_text.specs.declared.Mark.{Mark}
 use Rattle.yaml_lexeme.specs.Token.{BlockEnd, Kind, Token, empty-token}
 use Rattle.yaml_lexeme.specs.Block.{one-if}
 use Rattle.yaml_scan.specs.State.{Event, block-ends, empty-if, put, put-before}
-use Rattle.yaml_scan.specs.Scan.{settled}
-use Rattle.yaml_scan.specs.Sink.{Slot, flat, note, slot, sunk, sunk-settled}
+use Rattle.yaml_scan.specs.Slots.{Slot, flat, note, slot, slots, tokens-of}
 
 module _ (w : Token → ℕ) where
   -- the weight of a list
@@ -73,12 +72,12 @@ module _ (w : Token → ℕ) where
   sum-noted (x ∷ xs) (suc n) ts =
       omega (arith, sum-append (x .before) (x .token ∷ flat xs), sum-append (x .before) (x .token ∷ flat (note n ts xs)), sum-noted xs n ts)
 
-  sum-sunk : (xs : List Slot) (es : List Event) → sum (flat (sunk xs es)) ≤ sum (flat xs) + weigh es
-  unfolding sunk weigh
-  sum-sunk xs [] = omega arith
-  sum-sunk xs (put t ∷ es) = omega (arith, sum-sunk (xs ++ (slot t [] ∷ [])) es, sum-more xs t)
-  sum-sunk xs (put-before n ts ∷ es) = omega (arith, sum-sunk (note n ts xs) es, sum-noted xs n ts)
+  sum-slots : (xs : List Slot) (es : List Event) → sum (flat (slots xs es)) ≤ sum (flat xs) + weigh es
+  unfolding slots weigh
+  sum-slots xs [] = omega arith
+  sum-slots xs (put t ∷ es) = omega (arith, sum-slots (xs ++ (slot t [] ∷ [])) es, sum-more xs t)
+  sum-slots xs (put-before n ts ∷ es) = omega (arith, sum-slots (note n ts xs) es, sum-noted xs n ts)
 
-  pub settled-weigh : (es : List Event) → sum (settled 0 es) ≤ weigh es
+  pub tokens-weigh : (es : List Event) → sum (tokens-of es) ≤ weigh es
   unfolding flat sum
-  settled-weigh es = rw (← (sunk-settled es)) (omega (arith, sum-sunk [] es))
+  tokens-weigh es = omega (arith, sum-slots [] es)

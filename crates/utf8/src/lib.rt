@@ -2,7 +2,7 @@
 ghost use mathlib.Core.Path.{_≡_};
 ghost use Prim.Native.Nat.{_<_};
 ghost use lib.ListN.{drop, getD, length};
-ghost use Rattle.yaml_text.specs.Utf8.{chars, first, four, isScalar, isTail, lenOf, three, two};
+ghost use Rattle.yaml_text.specs.Utf8.{chars, first, four, is-scalar, is-tail, len-of, three, two};
 ghost use Rattle.yaml_text.specs.Class.{peek};
 use yaml_text::Decoded;
 
@@ -15,7 +15,7 @@ pub fn byte(s: &[u8], at: usize) -> u8
 
 // How many bytes the character of a lead byte takes, by its leading one bits; 0: it leads none.
 pub fn lead_len(b: u8) -> u32
-    ensures { λ r. ⌜ r ≡ lenOf b ⌝ }
+    ensures { λ r. ⌜ r ≡ len-of b ⌝ }
 {
     let n = u8::leading_zeros(!b);
     match n {
@@ -29,7 +29,7 @@ pub fn lead_len(b: u8) -> u32
 
 // Whether a byte goes on with a character.
 pub fn is_tail(b: u8) -> bool
-    ensures { λ r. ⌜ r ≡ isTail b ⌝ }
+    ensures { λ r. ⌜ r ≡ is-tail b ⌝ }
 {
     if b < 128 {
         return false;
@@ -39,7 +39,7 @@ pub fn is_tail(b: u8) -> bool
 
 // Whether c is a code point from lo up that is no surrogate.
 pub fn is_scalar(lo: u32, c: u32) -> bool
-    ensures { λ r. ⌜ r ≡ isScalar lo c ⌝ }
+    ensures { λ r. ⌜ r ≡ is-scalar lo c ⌝ }
 {
     if c < lo {
         return false;

@@ -1,5 +1,5 @@
-pub mod Turns
+pub mod DecodeTurns
 pub mod Near
-pub mod Passing
+pub mod Soundness
 pub mod Lengths
 pub mod Blocks

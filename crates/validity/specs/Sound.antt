@@ -1,14 +1,13 @@
 -- What the inner functions of the validity pass answer.
-use Prim.Native.Nat.{_+_, _<_, _≤_, ℕ}
+use Prim.Native.Nat.{_<_, _≤_, ℕ}
 use mathlib.Core.Bool.{Bool, false, true}
-use mathlib.Core.List.{List, [], _∷_}
+use mathlib.Core.List.{List}
 use mathlib.Core.Path.{_≡_}
-use lib.Dec.{eqb, ltb}
 use lib.ListN.{drop, length}
 use Rattle.yaml_text.specs.declared.Decoded.{Decoded}
 use Rattle.yaml_text.specs.declared.Decoded.the-variants.{Char, End, Ill}
 use Rattle.yaml_text.specs.Pick.{pick}
-use Rattle.yaml_text.specs.Class.{isZ}
+use Rattle.yaml_text.specs.Class.{is-z}
 use Rattle.yaml_text.specs.Mark.{origin}
 use Rattle.yaml_text.specs.Decode.{decode}
 use Rattle.validity.specs.declared.Checked.{Checked}
@@ -23,20 +22,9 @@ passes (Refused r) = false
 abbrev pub sound : List ℕ → Bool
 sound l = passes (checked (decode 0 origin l))
 
--- 1 for a byte from 1 to 127, which is a character, else 0
-unfoldable pub plain-of : ℕ → ℕ
-plain-of b = pick (isZ b) 0 (pick (ltb b 128) 1 0)
-
-unfoldable pub plains-of : List ℕ → ℕ
-plains-of [] = 0
-plains-of (b ∷ t) = plain-of b + plains-of t
-
-abbrev pub all-plain : List ℕ → Bool
-all-plain l = eqb (plains-of l) (length l)
-
 -- how many bytes a character other than NUL takes; 0: there is none
 abbrev pub good-len : Decoded → ℕ
-good-len (Char c n) = pick (isZ c) 0 n
+good-len (Char c n) = pick (is-z c) 0 n
 good-len Ill = 0
 good-len End = 0
 

@@ -1,9 +1,16 @@
 // Vectors: lines that begin with a text in hexadecimal.
+mod write;
+
 ghost use mathlib.Core.Path.{_≡_};
 ghost use Prim.Native.Nat.{_*_, _+_, _<_, _^_, min};
 ghost use lib.ListN.{drop};
+ghost use Rattle.yaml_lexeme.specs.Record.{record-words};
 ghost use Rattle.vectors.specs.Hex.{ReadHex, hex-value};
 ghost use Rattle.vectors.specs.Line.{line-length};
+use records::RECORD_WORDS;
+pub use write::put_accepted;
+pub use write::put_head;
+pub use write::put_refused;
 
 // Where the line that begins at `at` ends.
 pub fn line_end(s: &[u8], at: usize) -> usize
@@ -56,8 +63,8 @@ pub fn read_hex(line: &[u8], out: &mut [u8]) -> usize
 // The words that demand 3 asks for a text of n bytes, or as many as there are.
 pub fn enough_words(n: usize, most: usize) -> usize
     requires { ⌜ n < 2 ^ 32 ⌝ }
-    ensures { λ r. ⌜ r ≡ min ((2 * n + 3) * 12) most ⌝ }
+    ensures { λ r. ⌜ r ≡ min ((2 * n + 3) * record-words) most ⌝ }
 {
-    let words = (2 * n + 3) * 12;
+    let words = (2 * n + 3) * RECORD_WORDS;
     if words < most { words } else { most }
 }

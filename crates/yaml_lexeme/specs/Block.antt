@@ -7,14 +7,15 @@ use lib.ListN.{replicate}
 use Rattle.yaml_text.specs.declared.Mark.{Mark}
 use Rattle.yaml_text.specs.Pick.{pick}
 use Rattle.yaml_text.specs.Char.{'+', '-', '0', line-feed, space, tab}
-use Rattle.yaml_text.specs.Class.{isBlank, isBom, isBreak, isBreakz, isDigit, none-left, peek}
-use Rattle.yaml_text.specs.Mark.{Place, Run, along, before-run, ends-line, halfBreak, here, isMarker, look, over, skip-break, skip-by}
+use Rattle.yaml_text.specs.Class.{is-blank, is-bom, is-break, is-breakz, is-digit, none-left, peek}
+use Rattle.yaml_text.specs.Mark.{Place, Run, along, before-run, ends-line, half-break, here, is-marker, look, over, skip-break, skip-by}
 use Rattle.yaml_text.specs.Refusal.{Read, _>>=_, got, need, refused}
 use Rattle.yaml_lexeme.specs.declared.Chomping.{Chomping}
 use Rattle.yaml_lexeme.specs.declared.Chomping.the-variants.{Clip, Keep, Strip}
 use Rattle.yaml_lexeme.specs.declared.Style.{Style}
 use Rattle.yaml_lexeme.specs.declared.Style.the-variants.{Folded, Literal}
 use Rattle.yaml_lexeme.specs.Token.{Lexeme, Scalar, lexeme}
+use Rattle.yaml_lexeme.specs.Fold.{fold}
 use Rattle.yaml_lexeme.specs.Gap.{blanks-and-comment}
 
 pub record Header : Type 0 where
@@ -25,10 +26,10 @@ pub record Header : Type 0 where
 
 -- 8.1.1.1. 29: the indicator 0
 unfoldable pub increment-of : Mark → ℕ → Read ℕ
-increment-of start c = pick (isDigit c) (pick (eqb c '0') (refused 29 start) (got (c - '0'))) (got 0)
+increment-of start c = pick (is-digit c) (pick (eqb c '0') (refused 29 start) (got (c - '0'))) (got 0)
 
-unfoldable pub isChomp : ℕ → Bool
-isChomp c = eqb c '+' || eqb c '-'
+unfoldable pub is-chomp : ℕ → Bool
+is-chomp c = eqb c '+' || eqb c '-'
 
 -- 8.1.1.2
 unfoldable pub chomping-of : ℕ → Chomping
@@ -43,12 +44,12 @@ unfoldable pub indicators : Mark → Place → Read Header
 indicators start p =
     let c = look p in
     let d = peek (p .rest) 1 in
-    elim (isChomp c) [
+    elim (is-chomp c) [
       | true ↦ do
         n ← increment-of start d
-        got (record { chomping = chomping-of c; increment = n; place = skip-by (1 + one-if (isDigit d)) p })
-      | false ↦ increment-of start c >>= λ n. elim (isDigit c) [
-        | true ↦ got (record { chomping = chomping-of d; increment = n; place = skip-by (1 + one-if (isChomp d)) p })
+        got (record { chomping = chomping-of c; increment = n; place = skip-by (1 + one-if (is-digit d)) p })
+      | false ↦ increment-of start c >>= λ n. elim (is-digit c) [
+        | true ↦ got (record { chomping = chomping-of d; increment = n; place = skip-by (1 + one-if (is-chomp d)) p })
         | false ↦ got (record { chomping = Clip; increment = 0; place = p })
       ]
     ]
@@ -59,16 +60,19 @@ largest most m [] = max most (m .col)
 largest most m (c ∷ cs) =
     elim (eqb c space) [
       | true ↦ largest most (along m) cs
-      | false ↦ elim (isBreak c) [
+      | false ↦ elim (is-break c) [
         | true ↦ largest (max most (m .col)) (over m c (peek cs 0)) cs
         | false ↦ max most (m .col)
       ]
     ]
 
--- the content's column: an indicator adds to a non-negative indent only; parent is stored as indent + 1
+-- the content's column, by the parent's indent + 1 and the indicator, 0 where there is none
 unfoldable pub content-column : ℕ → ℕ → Place → ℕ
 content-column parent zero p = max (largest 0 (p .mark) (p .rest)) parent
-content-column parent (suc n) p = (parent - 1) + suc n
+-- an indent of -1: the indicator does not add to it
+content-column zero (suc n) p = suc n
+-- a non-negative indent: it adds
+content-column (suc indent) (suc n) p = indent + suc n
 
 pub record Margin : Type 0 where
   -- how many lines ended
@@ -79,14 +83,14 @@ pub record Margin : Type 0 where
 unfoldable pub margin : ℕ → ℕ → Mark → List ℕ → Margin
 margin column n m [] = record { breaks = n; place = here m [] }
 margin column n m (c ∷ cs) =
-    elim ((eqb c space && ltb (m .col) column) || isBreak c) [
+    elim ((eqb c space && ltb (m .col) column) || is-break c) [
       | true ↦ margin column (n + ends-line c (peek cs 0)) (over m c (peek cs 0)) cs
       | false ↦ record { breaks = n; place = here m (c ∷ cs) }
     ]
 
 -- a line that opens with a BOM (K1), or at column 0 with a document marker, is no content line [G1 to G3]
 unfoldable pub opens-content : Mark → List ℕ → Bool
-opens-content m cs = not (isBreakz (peek cs 0)) && not (isBom (peek cs 0)) && not (isMarker m cs)
+opens-content m cs = not (is-breakz (peek cs 0)) && not (is-bom (peek cs 0)) && not (is-marker m cs)
 
 -- what holds for the whole scalar
 pub record Layout : Type 0 where
@@ -94,26 +98,27 @@ pub record Layout : Type 0 where
   pub chomping : Chomping
   pub column : ℕ
 
+-- between content lines
+pub data Between : Type 0 where
+  -- before the first one, n lines after the header's
+  ahead : ℕ → Between
+  -- behind one that opened with a blank or not, and n more lines
+  behind : Bool → ℕ → Between
+
 -- where a character of the content stands
 pub data Line : Type 0 where
-  -- before the first content line, n lines after the header's
-  ahead : ℕ → Line
+  between : Between → Line
   -- in a content line; whether it opened with a blank
   inside : Bool → Line
-  -- behind a content line, which opened with a blank or not, and n more lines
-  behind : Bool → ℕ → Line
 
--- 8.1.2, 8.1.3: line feeds, or a space for a single folded one, before a content line that opens with a blank or not. (Inside a line none is asked for.)
-unfoldable pub separator : Bool → Bool → Line → List ℕ
+-- 8.1.2, 8.1.3: what the breaks before a content line become: blank: whether it opens with a blank. Lines that open with one are not folded
+unfoldable pub separator : Bool → Bool → Between → List ℕ
 separator literal blank (ahead n) = replicate n line-feed
-separator literal blank (inside w) = []
-separator literal blank (behind w n) =
-    pick (literal || w || blank) (replicate (suc n) line-feed) (pick (eqb n 0) (space ∷ []) (replicate n line-feed))
+separator literal blank (behind w n) = pick (literal || w || blank) (replicate (suc n) line-feed) (fold (suc n))
 
 -- n more line ends
-unfoldable pub lines-on : ℕ → Line → Line
+unfoldable pub lines-on : ℕ → Between → Between
 lines-on n (ahead k) = ahead (k + n)
-lines-on n (inside w) = inside w
 lines-on n (behind w k) = behind w (k + n)
 
 pub data ContentTurn : Type 0 where
@@ -121,33 +126,32 @@ pub data ContentTurn : Type 0 where
   content-stops : ContentTurn
 
 -- between content lines: over empty lines and spaces up to the column, then a content line or the end of the scalar
-unfoldable pub opening-turn : Layout → Line → Mark → ℕ → List ℕ → ContentTurn
+unfoldable pub opening-turn : Layout → Between → Mark → ℕ → List ℕ → ContentTurn
 opening-turn b l m c cs =
-    elim ((eqb c space && ltb (m .col) (b .column)) || isBreak c) [
-      | true ↦ writes [] (lines-on (ends-line c (peek cs 0)) l)
+    elim ((eqb c space && ltb (m .col) (b .column)) || is-break c) [
+      | true ↦ writes [] (between (lines-on (ends-line c (peek cs 0)) l))
       | false ↦ pick (eqb (m .col) (b .column) && opens-content m (c ∷ cs))
-          (writes (separator (b .literal) (isBlank c) l ++ (c ∷ [])) (inside (isBlank c)))
+          (writes (separator (b .literal) (is-blank c) l ++ (c ∷ [])) (inside (is-blank c)))
           content-stops
     ]
 
 -- content lines run to the break, BOMs included [G9]
 unfoldable pub content-turn : Layout → Line → Mark → ℕ → List ℕ → ContentTurn
-content-turn b (ahead n) m c cs = opening-turn b (ahead n) m c cs
-content-turn b (behind w n) m c cs = opening-turn b (behind w n) m c cs
+content-turn b (between l) m c cs = opening-turn b l m c cs
 content-turn b (inside w) m c cs =
-    pick (isBreak c) (writes [] (pick (halfBreak c (peek cs 0)) (inside w) (behind w 0))) (writes (c ∷ []) (inside w))
+    pick (is-break c) (writes [] (pick (half-break c (peek cs 0)) (inside w) (between (behind w 0)))) (writes (c ∷ []) (inside w))
 
 -- the break of the last content line
 unfoldable pub own-break : Line → List ℕ
-own-break (ahead n) = []
+own-break (between (ahead n)) = []
+own-break (between (behind w n)) = line-feed ∷ []
 own-break (inside w) = []
-own-break (behind w n) = line-feed ∷ []
 
 -- the empty lines behind it
 unfoldable pub lines-after : Line → List ℕ
-lines-after (ahead n) = replicate n line-feed
+lines-after (between (ahead n)) = replicate n line-feed
+lines-after (between (behind w n)) = replicate n line-feed
 lines-after (inside w) = []
-lines-after (behind w n) = replicate n line-feed
 
 -- 8.1.1.2: the line feeds behind the content. last: the text ends in a line that has no break, which counts as one [G5]
 unfoldable pub chomped : Chomping → Bool → Line → List ℕ
@@ -189,7 +193,7 @@ block-content b style parent start g =
       | false ↦ elim (opens-content (p .mark) (p .rest) && ltb (p .mark .col) (b .column) && leb parent (p .mark .col)) [
         | true ↦ refused 32 (p .mark)
         | false ↦
-            let r = content b (ahead (g .breaks)) (p .mark) (p .rest) in
+            let r = content b (between (ahead (g .breaks))) (p .mark) (p .rest) in
             got (lexeme (Scalar style (r .text)) (p .mark) (r .place .mark) (r .place))
       ]
     ]
@@ -199,7 +203,7 @@ unfoldable pub scan-block-scalar : Bool → ℕ → Place → Read Lexeme
 scan-block-scalar literal parent p = do
   h ← indicators (p .mark) (skip-by 1 p)
   e ← blanks-and-comment (h .place)
-  _ ← need (isBreakz (look e)) 30 (p .mark)
+  _ ← need (is-breakz (look e)) 30 (p .mark)
   let q = skip-break e
   _ ← need (not (eqb (look q) tab)) 31 (p .mark)
   let column = content-column parent (h .increment) q

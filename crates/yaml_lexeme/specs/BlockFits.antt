@@ -9,7 +9,7 @@ use lib.Dec.{eqb, leb, ltb}
 use lib.ListN.{drop, length}
 use Rattle.yaml_text.specs.declared.Mark.{Mark}
 use Rattle.yaml_text.specs.Char.{space}
-use Rattle.yaml_text.specs.Class.{isBreak, isBreakz, isDigit, none-left, peek}
+use Rattle.yaml_text.specs.Class.{is-break, is-breakz, is-digit, none-left, peek}
 use Rattle.yaml_text.specs.Mark.{Place, Run, ends-line, here, look, over, skip-break, skip-by}
 use Rattle.yaml_text.specs.Test.{by-test, on-pick, true-false}
 use Rattle.yaml_text.specs.All.{All, all-any, all-bind, all-need, all-test, all-weak, holds, not-read}
@@ -17,7 +17,7 @@ use Rattle.yaml_text.specs.DecodeLaws.{NoNul, no-nul-drop}
 use Rattle.yaml_text.specs.PlaceLaws.{Fits, fits-no-nul, fits-over, fits-refl, fits-trans, skip-break-fit, skip-break-line, skip-fit, there}
 use Rattle.yaml_lexeme.specs.declared.Style.{Style}
 use Rattle.yaml_lexeme.specs.Token.{Lexeme}
-use Rattle.yaml_lexeme.specs.Block.{ContentTurn, Header, Layout, Line, Margin, after-content, ahead, block-content, content, content-column, content-stops, content-turn, increment-of, indicators, isChomp, margin, one-if, opens-content, scan-block-scalar, writes}
+use Rattle.yaml_lexeme.specs.Block.{ContentTurn, Header, Layout, Line, Margin, after-content, ahead, between, block-content, content, content-column, content-stops, content-turn, increment-of, indicators, is-chomp, margin, one-if, opens-content, scan-block-scalar, writes}
 use Rattle.yaml_lexeme.specs.Fits.{FitsRun, blanks-and-comment-fit}
 
 content-turned : {q : Place} (t : ContentTurn) (go : Line → Run) (end : Run) → ((l : Line) → FitsRun q (go l)) → FitsRun q end → FitsRun q (after-content t go end)
@@ -36,7 +36,7 @@ pub margin-fit : (column n : ℕ) (m : Mark) (cs : List ℕ) → Fits (here m cs
 unfolding margin
 margin-fit column n m [] = fits-refl _
 margin-fit column n m (c ∷ cs) =
-    by-test ((eqb c space && ltb (m .col) column) || isBreak c)
+    by-test ((eqb c space && ltb (m .col) column) || is-break c)
     (λ e. rw (e, margin) (fits-over m c (peek cs 0) cs (margin-fit column (n + ends-line c (peek cs 0)) (over m c (peek cs 0)) cs)))
     (λ e. rw (e, margin) (fits-refl _))
 
@@ -52,7 +52,7 @@ block-content-fit b style parent start g =
     (λ e. rw (e, block-content) (holds (record { onward = fits-refl _; starts = inl refl })))
     (λ e. by-test (opens-content (g .place .mark) (g .place .rest) && ltb (g .place .mark .col) (b .column) && leb parent (g .place .mark .col))
     (λ f. rw (e, f, block-content) not-read)
-    (λ f. rw (e, f, block-content) (holds (record { onward = content-fit b (ahead (g .breaks)) (g .place .mark) (g .place .rest); starts = inr e }))))
+    (λ f. rw (e, f, block-content) (holds (record { onward = content-fit b (between (ahead (g .breaks))) (g .place .mark) (g .place .rest); starts = inr e }))))
 
 -- an indicator, and the one behind it if it stands there
 both-there : (f g : ℕ → Bool) (cs : List ℕ) → f 0 ≡ false → g 0 ≡ false → f (peek cs 0) ≡ true → 1 + one-if (g (peek cs 1)) ≤ length cs
@@ -60,14 +60,14 @@ both-there f g cs e e' h =
     on-pick (λ n. 1 + n ≤ length cs) (g (peek cs 1)) (λ k. there g cs 1 e' k) (λ _. there f cs 0 e h)
 
 pub indicators-fit : (start : Mark) (p : Place) → All Header (λ h. Fits p (h .place)) (indicators start p)
-unfolding indicators isChomp isDigit
+unfolding indicators is-chomp is-digit
 indicators-fit start p =
-    by-test (isChomp (look p))
+    by-test (is-chomp (look p))
     (λ e. rw (e, indicators) (all-bind _ (all-any (increment-of start (peek (p .rest) 1)))
-    (λ _ _. holds (skip-fit _ p (both-there isChomp isDigit (p .rest) refl refl e)))))
-    (λ e. rw (e, indicators) (by-test (isDigit (look p))
+    (λ _ _. holds (skip-fit _ p (both-there is-chomp is-digit (p .rest) refl refl e)))))
+    (λ e. rw (e, indicators) (by-test (is-digit (look p))
     (λ f. rw (f, indicators) (all-bind _ (all-any (increment-of start (look p)))
-    (λ _ _. holds (skip-fit _ p (both-there isDigit isChomp (p .rest) refl refl f)))))
+    (λ _ _. holds (skip-fit _ p (both-there is-digit is-chomp (p .rest) refl refl f)))))
     (λ f. rw (f, indicators) (all-bind _ (all-any (increment-of start (look p))) (λ _ _. holds (fits-refl p))))))
 
 drop-some : (n : ℕ) (cs : List ℕ) → none-left (drop n cs) ≡ false → none-left cs ≡ false
@@ -80,10 +80,10 @@ some-left : {p q : Place} → Fits p q → none-left (q .rest) ≡ false → non
 some-left {p} f e = drop-some (f .taken) (p .rest) (rw (f .rest-is) at e)
 
 -- where text is left, a break or the end is a break
-breaks : (cs : List ℕ) → NoNul cs → none-left cs ≡ false → isBreakz (peek cs 0) ≡ true → isBreak (peek cs 0) ≡ true
-unfolding isBreakz none-left
+breaks : (cs : List ℕ) → NoNul cs → none-left cs ≡ false → is-breakz (peek cs 0) ≡ true → is-break (peek cs 0) ≡ true
+unfolding is-breakz none-left
 breaks [] n e b = true-false e
-breaks (c ∷ cs) n e b = by-test (isBreak c) (λ f. f) (λ f. true-false (sym (rw (f, n .0) at b)))
+breaks (c ∷ cs) n e b = by-test (is-break c) (λ f. f) (λ f. true-false (sym (rw (f, n .0) at b)))
 
 -- it takes its indicator; its token starts there, or its line is over
 pub record ReadsBlock (p : Place) (l : Lexeme) : Type 0 where
@@ -91,7 +91,7 @@ pub record ReadsBlock (p : Place) (l : Lexeme) : Type 0 where
   pub starts : NoNul (p .rest) → (l .token .start ≡ p .mark) ⊎ (p .mark .line < l .place .mark .line)
 
 -- p: behind the indicator, e: behind the header, q: where content was looked for
-block-line : {p e q r : Place} → Fits p e → isBreakz (look e) ≡ true → Fits (skip-break e) q → Fits q r → NoNul (p .rest) → none-left (q .rest) ≡ false
+block-line : {p e q r : Place} → Fits p e → is-breakz (look e) ≡ true → Fits (skip-break e) q → Fits q r → NoNul (p .rest) → none-left (q .rest) ≡ false
     → p .mark .line < r .mark .line
 block-line {e} f z g h n s =
     let k = skip-break-line e (breaks (e .rest) (fits-no-nul f n) (some-left (fits-trans (skip-break-fit e) g) s) z) in

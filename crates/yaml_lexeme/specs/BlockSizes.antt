@@ -8,9 +8,9 @@ use lib.Dec.{eqb, leb, ltb}
 use Rattle.yaml_text.specs.declared.Mark.{Mark}
 use Rattle.yaml_text.specs.Pick.{pick}
 use Rattle.yaml_text.specs.Char.{line-feed, space}
-use Rattle.yaml_text.specs.Utf8.{bytesOf}
-use Rattle.yaml_text.specs.Class.{isBlank, isBreak, none-left, peek}
-use Rattle.yaml_text.specs.Mark.{Place, Run, ends-line, halfBreak, here, look, over, skip-break, skip-by}
+use Rattle.yaml_text.specs.Utf8.{char-bytes}
+use Rattle.yaml_text.specs.Class.{is-blank, is-break, none-left, peek}
+use Rattle.yaml_text.specs.Mark.{Place, Run, ends-line, half-break, here, look, over, skip-break, skip-by}
 use Rattle.yaml_text.specs.Test.{by-pick, by-test}
 use Rattle.yaml_text.specs.All.{All, all-bind, all-need, all-weak, holds, not-read}
 use Rattle.yaml_text.specs.PlaceLaws.{left, skip-break-fit}
@@ -19,33 +19,34 @@ use Rattle.yaml_lexeme.specs.declared.Chomping.the-variants.{Clip, Keep,
 use Rattle.yaml_lexeme.specs.declared.Style.{Style}
 use Rattle.yaml_lexeme.specs.Token.{Lexeme, kind-bytes, size}
 use Rattle.yaml_lexeme.specs.Role.{role}
-use Rattle.yaml_lexeme.specs.Block.{ContentTurn, Layout, Line, Margin, after-content, ahead, behind, block-content, chomped, content, content-column, content-end, content-stops, content-turn, inside, lines-after, lines-on, margin, no-content, opening-turn, opens-content, own-break, scan-block-scalar, separator, writes}
+use Rattle.yaml_lexeme.specs.Block.{Between, ContentTurn, Layout, Line, Margin, after-content, ahead, behind, between, block-content, chomped, content, content-column, content-end, content-stops, content-turn, inside, lines-after, lines-on, margin, no-content, opening-turn, opens-content, own-break, scan-block-scalar, separator, writes}
 use Rattle.yaml_lexeme.specs.Fits.{blanks-and-comment-fit}
 use Rattle.yaml_lexeme.specs.BlockFits.{indicators-fit}
-use Rattle.yaml_lexeme.specs.Sizes.{Lexed, Pays, PaysRun, size-append, size-cons, size-feeds, size-fits, size-first, size-nil, size-one, width, width-some}
+use Rattle.yaml_lexeme.specs.Sizes.{Lexed, Pays, PaysRun, fold-size, size-append, size-cons, size-feeds, size-fits, size-first, size-nil, size-one, width, width-some}
 
 -- the line feeds that were paid for the lines behind which a character stands
-abbrev owed : Line → ℕ
-owed (ahead n) = n
-owed (inside w) = 0
-owed (behind w n) = suc n
+abbrev due : Between → ℕ
+due (ahead n) = n
+due (behind w n) = suc n
 
-separator-paid : (literal blank : Bool) (l : Line) → size (separator literal blank l) ≤ owed l
-unfolding separator bytesOf
+abbrev owed : Line → ℕ
+owed (between l) = due l
+owed (inside w) = 0
+
+separator-paid : (literal blank : Bool) (l : Between) → size (separator literal blank l) ≤ due l
+unfolding separator
 separator-paid literal blank (ahead n) = omega (arith, size-feeds n)
-separator-paid literal blank (inside w) = omega (arith, size-nil)
 separator-paid literal blank (behind w n) =
-    by-pick (λ (t : List ℕ). size t ≤ suc n) (literal || w || blank) _ _ (omega (arith, size-feeds (suc n)))
-    (by-pick (λ (t : List ℕ). size t ≤ suc n) (eqb n 0) _ _ (omega (arith, size-one space)) (omega (arith, size-feeds n)))
+    by-pick (λ (t : List ℕ). size t ≤ suc n) (literal || w || blank) _ _ (omega (arith, size-feeds (suc n))) (fold-size (suc n))
 
 own-paid : (l : Line) → size (own-break l) + size (lines-after l) ≤ owed l
-unfolding own-break lines-after bytesOf
-own-paid (ahead n) = omega (arith, size-nil, size-feeds n)
+unfolding own-break lines-after char-bytes
+own-paid (between (ahead n)) = omega (arith, size-nil, size-feeds n)
+own-paid (between (behind w n)) = omega (arith, size-one line-feed, size-feeds n)
 own-paid (inside w) = omega (arith, size-nil)
-own-paid (behind w n) = omega (arith, size-one line-feed, size-feeds n)
 
 last-one : (last : Bool) → size (pick last (line-feed ∷ []) []) ≤ 1
-unfolding bytesOf
+unfolding char-bytes
 last-one true = omega (arith, size-one line-feed)
 last-one false = omega (arith, size-nil)
 
@@ -58,37 +59,35 @@ chomped-paid Keep last l =
     let t = pick last (line-feed ∷ []) [] in
     omega (arith, own-paid l, last-one last, size-append (own-break l) t, size-append (own-break l ++ t) (lines-after l))
 
-lines-on-paid : (n : ℕ) (l : Line) → owed (lines-on n l) ≤ n + owed l
+lines-on-paid : (n : ℕ) (l : Between) → due (lines-on n l) ≤ n + due l
 unfolding lines-on
 lines-on-paid n (ahead k) = omega arith
-lines-on-paid n (inside w) = omega arith
 lines-on-paid n (behind w k) = omega arith
 
 ends-one : (c d : ℕ) → ends-line c d ≤ 1
 unfolding ends-line
 ends-one c d =
-    by-pick (λ (n : ℕ). n ≤ 1) (halfBreak c d) _ _ (omega arith) (by-pick (λ (n : ℕ). n ≤ 1) (isBreak c) _ _ (omega arith) (omega arith))
+    by-pick (λ (n : ℕ). n ≤ 1) (half-break c d) _ _ (omega arith) (by-pick (λ (n : ℕ). n ≤ 1) (is-break c) _ _ (omega arith) (omega arith))
 
 -- a turn over the character c
 abbrev PaysContent : ℕ → ℕ → ContentTurn → Type 0
 PaysContent k c (writes t l) = 2 * size t + 2 * owed l ≤ 2 * k + 3 * width c
 PaysContent k c content-stops = Unit {0}
 
-opening-pays : (b : Layout) (l : Line) (m : Mark) (c : ℕ) (cs : List ℕ) → PaysContent (owed l) c (opening-turn b l m c cs)
+opening-pays : (b : Layout) (l : Between) (m : Mark) (c : ℕ) (cs : List ℕ) → PaysContent (due l) c (opening-turn b l m c cs)
 unfolding opening-turn
 opening-pays b l m c cs =
-    by-test ((eqb c space && ltb (m .col) (b .column)) || isBreak c)
+    by-test ((eqb c space && ltb (m .col) (b .column)) || is-break c)
     (λ e. rw (e, opening-turn) (omega (arith, size-nil, width-some c .0, ends-one c (peek cs 0), lines-on-paid (ends-line c (peek cs 0)) l)))
-    (λ e. rw (e, opening-turn) (by-pick (PaysContent (owed l) c) (eqb (m .col) (b .column) && opens-content m (c ∷ cs)) _ _
-    (omega (arith, size-append (separator (b .literal) (isBlank c) l) (c ∷ []), size-one c, separator-paid (b .literal) (isBlank c) l)) tt))
+    (λ e. rw (e, opening-turn) (by-pick (PaysContent (due l) c) (eqb (m .col) (b .column) && opens-content m (c ∷ cs)) _ _
+    (omega (arith, size-append (separator (b .literal) (is-blank c) l) (c ∷ []), size-one c, separator-paid (b .literal) (is-blank c) l)) tt))
 
 turn-pays : (b : Layout) (l : Line) (m : Mark) (c : ℕ) (cs : List ℕ) → PaysContent (owed l) c (content-turn b l m c cs)
 unfolding content-turn
-turn-pays b (ahead n) m c cs = opening-pays b (ahead n) m c cs
-turn-pays b (behind w n) m c cs = opening-pays b (behind w n) m c cs
+turn-pays b (between l) m c cs = opening-pays b l m c cs
 turn-pays b (inside w) m c cs =
-    by-pick (PaysContent 0 c) (isBreak c) _ _
-    (by-pick (λ (l : Line). 2 * size [] + 2 * owed l ≤ 2 * 0 + 3 * width c) (halfBreak c (peek cs 0)) _ _
+    by-pick (PaysContent 0 c) (is-break c) _ _
+    (by-pick (λ (l : Line). 2 * size [] + 2 * owed l ≤ 2 * 0 + 3 * width c) (half-break c (peek cs 0)) _ _
     (omega (arith, size-nil)) (omega (arith, size-nil, width-some c .0)))
     (omega (arith, size-one c))
 
@@ -111,12 +110,12 @@ margin-pays : (column n : ℕ) (m : Mark) (cs : List ℕ) → Pays n cs (margin 
 unfolding margin
 margin-pays column n m [] = omega arith
 margin-pays column n m (c ∷ cs) =
-    by-test ((eqb c space && ltb (m .col) column) || isBreak c)
+    by-test ((eqb c space && ltb (m .col) column) || is-break c)
     (λ e. rw (e, margin) (omega (arith, size-cons c cs, width-some c .0, ends-one c (peek cs 0), margin-pays column (n + ends-line c (peek cs 0)) (over m c (peek cs 0)) cs)))
     (λ e. rw (e, margin) (omega arith))
 
 no-content-paid : (k : Chomping) (n : ℕ) (part : Bool) → size (no-content k n part) ≤ 1 + n
-unfolding no-content bytesOf
+unfolding no-content char-bytes
 no-content-paid Strip n part = omega (arith, size-nil)
 no-content-paid Clip n part = omega (arith, size-nil)
 no-content-paid Keep n part =
@@ -133,7 +132,7 @@ block-content-lexed b style parent start g =
     rw (e, block-content) (holds (record { neutral = refl; paid = h })))
     (λ e. by-test (opens-content (p .mark) (p .rest) && ltb (p .mark .col) (b .column) && leb parent (p .mark .col))
     (λ f. rw (e, f, block-content) not-read)
-    (λ f. rw (e, f, block-content) (holds (record { neutral = refl; paid = content-pays b (ahead (g .breaks)) (p .mark) (p .rest) }))))
+    (λ f. rw (e, f, block-content) (holds (record { neutral = refl; paid = content-pays b (between (ahead (g .breaks))) (p .mark) (p .rest) }))))
 
 pub block-scalar-lexed : (literal : Bool) (parent : ℕ) (p : Place) → 1 ≤ left p → All Lexeme (Lexed 0 (p .rest)) (scan-block-scalar literal parent p)
 unfolding scan-block-scalar

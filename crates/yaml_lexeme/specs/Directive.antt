@@ -7,11 +7,12 @@ use lib.ListN.{drop}
 use Rattle.yaml_text.specs.declared.Mark.{Mark}
 use Rattle.yaml_text.specs.Pick.{pick}
 use Rattle.yaml_text.specs.Char.{'!', '0', dot, space}
-use Rattle.yaml_text.specs.Class.{isAlpha, isBlank, isBlankOrBreakz, isBreakz, isDigit, isNonSpace, isTag, isUri, none-left, same}
-use Rattle.yaml_text.specs.Mark.{Place, Run, along, before-run, here, look, nothing-at, skip-break, skip-by, word}
+use Rattle.yaml_text.specs.Class.{is-alpha, is-blank, is-blank-or-breakz, is-breakz, is-digit, is-non-space, is-tag, is-uri, none-left, same}
+use Rattle.yaml_text.specs.Mark.{Place, Run, along, before-run, here, look, nothing-at, skip-break, skip-by, run-of}
 use Rattle.yaml_text.specs.Refusal.{Read, _>>=_, got, need, refused}
 use Rattle.yaml_lexeme.specs.Token.{Lexeme, ReservedDirective, TagDirective, VersionDirective, lexeme}
 use Rattle.yaml_lexeme.specs.Gap.{blanks, blanks-and-comment}
+use Rattle.yaml_lexeme.specs.Letter.{'A', 'G', 'L', 'M', 'T', 'Y'}
 use Rattle.yaml_lexeme.specs.Tag.{uri-at}
 
 pub record Numbered : Type 0 where
@@ -22,7 +23,7 @@ pub record Numbered : Type 0 where
 unfoldable pub version-digits : Mark → ℕ → ℕ → Mark → List ℕ → Read Numbered
 version-digits start n v m [] = got (record { value = v; place = here m [] })
 version-digits start n v m (c ∷ cs) =
-    elim (isDigit c) [
+    elim (is-digit c) [
       | true ↦ elim (ltb n 9) [
         | true ↦ version-digits start (suc n) (v * 10 + (c - '0')) (along m) cs
         | false ↦ refused 14 start
@@ -33,7 +34,7 @@ version-digits start n v m (c ∷ cs) =
 -- 12: no digit
 unfoldable pub version-number : Mark → Place → Read Numbered
 version-number start p = do
-  _ ← need (isDigit (look p)) 12 start
+  _ ← need (is-digit (look p)) 12 start
   version-digits start 0 0 (p .mark) (p .rest)
 
 abbrev pub blanks-at : Place → Place
@@ -51,7 +52,7 @@ version-directive start p = do
 unfoldable pub tag-handle : Mark → Place → Read Run
 tag-handle start p = do
   _ ← need (eqb (look p) '!') 16 start
-  let h = word isAlpha (along (p .mark)) (drop 1 (p .rest))
+  let h = run-of is-alpha (along (p .mark)) (drop 1 (p .rest))
   let closed = eqb (look (h .place)) '!'
   _ ← need (closed || none-left (h .text)) 17 start
   got (pick closed
@@ -61,8 +62,8 @@ tag-handle start p = do
 -- the prefix of %TAG. 18: a bad first character
 unfoldable pub tag-prefix : Mark → Place → Read Run
 tag-prefix start p = do
-  _ ← need (eqb (look p) '!' || isTag (look p)) 18 start
-  uri-at isUri start p
+  _ ← need (eqb (look p) '!' || is-tag (look p)) 18 start
+  uri-at is-uri start p
 
 -- %TAG; 19: no blank after the prefix [H3]
 unfoldable pub tag-directive : Mark → Place → Read Lexeme
@@ -70,16 +71,16 @@ tag-directive start p = do
   h ← tag-handle start (blanks-at p)
   r ← tag-prefix start (blanks-at (h .place))
   let e = r .place
-  _ ← need (isBlankOrBreakz (look e)) 19 start
+  _ ← need (is-blank-or-breakz (look e)) 19 start
   got (lexeme (TagDirective (h .text) (r .text)) start (e .mark) e)
 
 -- parameters joined by one space; '#' words are parameters. some: a word came before; blank: after a blank
 unfoldable pub parameters : Bool → Bool → Mark → List ℕ → Run
 parameters some blank m [] = nothing-at (here m [])
 parameters some blank m (c ∷ cs) =
-    elim (isBlank c) [
+    elim (is-blank c) [
       | true ↦ parameters some true (along m) cs
-      | false ↦ elim (isNonSpace c) [
+      | false ↦ elim (is-non-space c) [
         | true ↦ before-run (pick (some && blank) (space ∷ c ∷ []) (c ∷ [])) (parameters true false (along m) cs)
         | false ↦ nothing-at (here m (c ∷ cs))
       ]
@@ -91,12 +92,18 @@ reserved-directive start name p =
     let r = parameters false false (p .mark) (p .rest) in
     lexeme (ReservedDirective name (r .text)) start (r .place .mark) (r .place)
 
--- by its name: YAML, TAG, any other
+-- the names that mean something; any other is reserved
+abbrev pub yaml-name : List ℕ
+yaml-name = 'Y' ∷ 'A' ∷ 'M' ∷ 'L' ∷ []
+
+abbrev pub tag-name : List ℕ
+tag-name = 'T' ∷ 'A' ∷ 'G' ∷ []
+
 unfoldable pub directive-of : Mark → List ℕ → Place → Read Lexeme
 directive-of start name p =
-    elim (same name (89 ∷ 65 ∷ 77 ∷ 76 ∷ [])) [
+    elim (same name yaml-name) [
       | true ↦ version-directive start p
-      | false ↦ elim (same name (84 ∷ 65 ∷ 71 ∷ [])) [
+      | false ↦ elim (same name tag-name) [
         | true ↦ tag-directive start p
         | false ↦ got (reserved-directive start name p)
       ]
@@ -106,10 +113,10 @@ directive-of start name p =
 unfoldable pub scan-directive : Place → Read Lexeme
 scan-directive p = do
   let name-mark = along (p .mark)
-  let name = word isNonSpace name-mark (drop 1 (p .rest))
+  let name = run-of is-non-space name-mark (drop 1 (p .rest))
   _ ← need (not (none-left (name .text))) 10 name-mark
-  _ ← need (isBlankOrBreakz (look (name .place))) 11 name-mark
+  _ ← need (is-blank-or-breakz (look (name .place))) 11 name-mark
   l ← directive-of (p .mark) (name .text) (name .place)
   e ← blanks-and-comment (l .place)
-  _ ← need (isBreakz (look e)) 15 (p .mark)
+  _ ← need (is-breakz (look e)) 15 (p .mark)
   got (record { token = l .token; place = skip-break e })

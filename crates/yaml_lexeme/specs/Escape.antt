@@ -1,15 +1,15 @@
 -- The escapes of double quotes (YAML 1.2.2, 5.7; 37 to 39): an escape is one character with how many characters it takes, or a refusal at the scalar's start.
 use Prim.Native.Nat.{_*_, _+_, suc, zero, ℕ}
 use mathlib.Core.Bool.{false, true}
-use mathlib.Core.List.{List}
+use mathlib.Core.List.{List, [], _∷_}
 use lib.Dec.{eqb}
 use lib.ListN.{drop}
 use Rattle.yaml_text.specs.declared.Mark.{Mark}
-use Rattle.yaml_text.specs.Pick.{pick}
 use Rattle.yaml_text.specs.Char.{'0', backslash, double-quote, space, tab}
-use Rattle.yaml_text.specs.Utf8.{isScalar}
-use Rattle.yaml_text.specs.Class.{asHex, isHex, peek}
+use Rattle.yaml_text.specs.Utf8.{is-scalar}
+use Rattle.yaml_text.specs.Class.{as-hex, is-hex, peek}
 use Rattle.yaml_text.specs.Refusal.{Read, _>>=_, got, need, refused}
+use Rattle.yaml_lexeme.specs.Letter.{'L', 'N', 'P', 'U', 'a', 'b', 'e', 'f', 'n', 'r', 't', 'u', 'v', 'x', slash, underscore}
 use Rattle.yaml_lexeme.specs.declared.Named.{Named}
 use Rattle.yaml_lexeme.specs.declared.Named.the-variants.{Digits, Stands, Unknown}
 
@@ -18,23 +18,63 @@ pub record Escaped : Type 0 where
   -- how many characters it takes behind its first one (the backslash, the percent sign)
   pub took : ℕ
 
--- 0 a b t tab n v f r e space " / \ N _ L P, x u U
+-- a letter behind the backslash, with what it is
+abbrev pub Row : Type 0
+Row = ℕ × Named
+
+-- it stands for this character
+infix 20 _stands-for_
+abbrev pub _stands-for_ : ℕ → ℕ → Row
+c stands-for k = (c, Stands k)
+
+-- so many hexadecimal digits follow it
+infix 20 _takes_
+abbrev pub _takes_ : ℕ → ℕ → Row
+c takes n = (c, Digits n)
+
+-- in the order of 5.7
+abbrev pub escapes : List Row
+escapes =
+    ('0' stands-for 0x00)
+    ∷ ('a' stands-for 0x07)
+    ∷ ('b' stands-for 0x08)
+    ∷ ('t' stands-for 0x09)
+    ∷ (tab stands-for 0x09)
+    ∷ ('n' stands-for 0x0A)
+    ∷ ('v' stands-for 0x0B)
+    ∷ ('f' stands-for 0x0C)
+    ∷ ('r' stands-for 0x0D)
+    ∷ ('e' stands-for 0x1B)
+    ∷ (space stands-for 0x20)
+    ∷ (double-quote stands-for 0x22)
+    ∷ (slash stands-for 0x2F)
+    ∷ (backslash stands-for 0x5C)
+    ∷ ('N' stands-for 0x85)
+    ∷ (underscore stands-for 0xA0)
+    ∷ ('L' stands-for 0x2028)
+    ∷ ('P' stands-for 0x2029)
+    ∷ ('x' takes 2)
+    ∷ ('u' takes 4)
+    ∷ ('U' takes 8)
+    ∷ []
+
+unfoldable pub looked-up : ℕ → List Row → Named
+looked-up c [] = Unknown
+looked-up c (r ∷ rs) =
+    elim (eqb c (r .0)) [
+      | true ↦ r .1
+      | false ↦ looked-up c rs
+    ]
+
 unfoldable pub named : ℕ → Named
-named c =
-    pick (eqb c '0') (Stands 0) (pick (eqb c 97) (Stands 7) (pick (eqb c 98) (Stands 8)
-    (pick (eqb c 116) (Stands 9) (pick (eqb c tab) (Stands 9) (pick (eqb c 110) (Stands 10)
-    (pick (eqb c 118) (Stands 11) (pick (eqb c 102) (Stands 12) (pick (eqb c 114) (Stands 13)
-    (pick (eqb c 101) (Stands 27) (pick (eqb c space) (Stands 32) (pick (eqb c double-quote) (Stands 34)
-    (pick (eqb c 47) (Stands 47) (pick (eqb c backslash) (Stands 92) (pick (eqb c 78) (Stands 0x85)
-    (pick (eqb c 95) (Stands 0xA0) (pick (eqb c 76) (Stands 0x2028) (pick (eqb c 80) (Stands 0x2029)
-    (pick (eqb c 120) (Digits 2) (pick (eqb c 117) (Digits 4) (pick (eqb c 85) (Digits 8) Unknown))))))))))))))))))))
+named c = looked-up c escapes
 
 -- n hexadecimal digits, behind those of the value v; 38: one is missing
 unfoldable pub hex-number : Mark → ℕ → ℕ → List ℕ → Read ℕ
 hex-number start zero v cs = got v
 hex-number start (suc n) v cs =
-    elim (isHex (peek cs 0)) [
-      | true ↦ hex-number start n (v * 16 + asHex (peek cs 0)) (drop 1 cs)
+    elim (is-hex (peek cs 0)) [
+      | true ↦ hex-number start n (v * 16 + as-hex (peek cs 0)) (drop 1 cs)
       | false ↦ refused 38 start
     ]
 
@@ -43,7 +83,7 @@ unfoldable pub escape-of : Mark → Named → List ℕ → Read Escaped
 escape-of start (Stands c) cs = got (record { char = c; took = 1 })
 escape-of start (Digits n) cs = do
   v ← hex-number start n 0 cs
-  _ ← need (isScalar 0 v) 39 start
+  _ ← need (is-scalar 0 v) 39 start
   got (record { char = v; took = n + 1 })
 escape-of start Unknown cs = refused 37 start
 

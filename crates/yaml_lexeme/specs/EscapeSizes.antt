@@ -1,21 +1,21 @@
 -- An escape is paid by the characters that it takes: `\L` and `\P` are two bytes and decode to three, which is the most.
 use Prim.Native.Nat.{_*_, _+_, _-_, _≤_, ℕ}
+use mathlib.Core.Bool.{Bool, true}
 use mathlib.Core.List.{List, _∷_}
 use native.Mathlib.Omega.{arith}
-use lib.Dec.{eqb}
+use lib.Dec.{T, leb, leb→le}
 use lib.ListN.{drop}
 use borrow.Author.Tests.{ltb-true}
 use Rattle.yaml_text.specs.declared.Decoded.{Decoded}
 use Rattle.yaml_text.specs.declared.Decoded.the-variants.{Char, End, Ill}
 use Rattle.yaml_text.specs.declared.Mark.{Mark}
-use Rattle.yaml_text.specs.Char.{'0', backslash, double-quote, space, tab}
-use Rattle.yaml_text.specs.Utf8.{bytesOf, first, lenOf}
+use Rattle.yaml_text.specs.Utf8.{char-bytes, first, len-of}
 use Rattle.yaml_text.specs.Class.{peek}
-use Rattle.yaml_text.specs.Test.{by-pick}
 use Rattle.yaml_text.specs.All.{All, all-any, all-bind, all-need, all-test, holds, not-read}
 use Rattle.yaml_lexeme.specs.declared.Named.{Named}
 use Rattle.yaml_lexeme.specs.declared.Named.the-variants.{Digits, Stands, Unknown}
 use Rattle.yaml_lexeme.specs.Escape.{Escaped, escape, escape-of, hex-number, named}
+use Rattle.yaml_lexeme.specs.EscapeTable.{by-letter}
 use Rattle.yaml_lexeme.specs.Tag.{code-point, octet, percent, trailing}
 use Rattle.yaml_lexeme.specs.Sizes.{width, width-some}
 
@@ -29,16 +29,20 @@ Small (Stands c) = width c ≤ 3
 Small (Digits n) = 1 ≤ n
 Small Unknown = Unit {0}
 
+small-test : ℕ → Named → Bool
+small-test c (Stands k) = leb (width k) 3
+small-test c (Digits n) = leb 1 n
+small-test c Unknown = true
+
+small-by : (c : ℕ) (k : Named) → T (small-test c k) → Small k
+unfolding small-test
+small-by c (Stands k) t = leb→le (width k) 3 t
+small-by c (Digits n) t = leb→le 1 n t
+small-by c Unknown t = tt
+
 named-small : (c : ℕ) → Small (named c)
-unfolding named bytesOf
-named-small c =
-    by-pick Small (eqb c '0') _ _ (omega arith) (by-pick Small (eqb c 97) _ _ (omega arith) (by-pick Small (eqb c 98) _ _ (omega arith)
-    (by-pick Small (eqb c 116) _ _ (omega arith) (by-pick Small (eqb c tab) _ _ (omega arith) (by-pick Small (eqb c 110) _ _ (omega arith)
-    (by-pick Small (eqb c 118) _ _ (omega arith) (by-pick Small (eqb c 102) _ _ (omega arith) (by-pick Small (eqb c 114) _ _ (omega arith)
-    (by-pick Small (eqb c 101) _ _ (omega arith) (by-pick Small (eqb c space) _ _ (omega arith) (by-pick Small (eqb c double-quote) _ _ (omega arith)
-    (by-pick Small (eqb c 47) _ _ (omega arith) (by-pick Small (eqb c backslash) _ _ (omega arith) (by-pick Small (eqb c 78) _ _ (omega arith)
-    (by-pick Small (eqb c 95) _ _ (omega arith) (by-pick Small (eqb c 76) _ _ (omega arith) (by-pick Small (eqb c 80) _ _ (omega arith)
-    (by-pick Small (eqb c 120) _ _ (omega arith) (by-pick Small (eqb c 117) _ _ (omega arith) (by-pick Small (eqb c 85) _ _ (omega arith) tt))))))))))))))))))))
+unfolding small-test char-bytes
+named-small c = small-by c (named c) (by-letter small-test tt c tt)
 
 escape-of-pays : (start : Mark) (k : Named) (cs : List ℕ) → Small k → All Escaped PaysEscape (escape-of start k cs)
 unfolding escape-of
@@ -61,6 +65,6 @@ pub percent-pays : (start : Mark) (cs : List ℕ) → All Escaped PaysEscape (pe
 unfolding percent
 percent-pays start cs =
     all-bind _ (all-any (octet start cs))
-    (λ a _. all-test _ 22 start _ (λ e. let h = ltb-true 0 (lenOf a) e in
-    all-bind _ (all-any (trailing start (lenOf a - 1) (drop 3 cs)))
-    (λ bs _. code-point-pays start (lenOf a * 3 - 1) (first (a ∷ bs)) (omega arith))))
+    (λ a _. all-test _ 22 start _ (λ e. let h = ltb-true 0 (len-of a) e in
+    all-bind _ (all-any (trailing start (len-of a - 1) (drop 3 cs)))
+    (λ bs _. code-point-pays start (len-of a * 3 - 1) (first (a ∷ bs)) (omega arith))))

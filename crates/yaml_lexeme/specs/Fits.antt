@@ -9,7 +9,7 @@ use lib.ListN.{drop}
 use Rattle.yaml_text.specs.declared.Mark.{Mark}
 use Rattle.yaml_lexeme.specs.declared.Before.{Before}
 use Rattle.yaml_text.specs.Char.{'#'}
-use Rattle.yaml_text.specs.Class.{isBlank, isBreak, none-left, peek}
+use Rattle.yaml_text.specs.Class.{is-blank, is-break, none-left, peek}
 use Rattle.yaml_text.specs.Mark.{Place, Run, along, before-run, here, look, nothing-at, over, skip-by}
 use Rattle.yaml_text.specs.Refusal.{Read, before-read}
 use Rattle.yaml_text.specs.Test.{by-pick, by-test}
@@ -18,7 +18,7 @@ use Rattle.yaml_text.specs.PlaceLaws.{Fits, fits-along, fits-over, fits-refl, f
 use Rattle.yaml_lexeme.specs.Token.{Lexeme}
 use Rattle.yaml_lexeme.specs.Gap.{Gap, GapTurn, after-gap-turn, blanks, blanks-and-comment, comment-after, gap-turn, pass, skip-gap, stop, to-break, wrong}
 use Rattle.yaml_lexeme.specs.Plain.{glue, plain-stops, plain-text, scan-plain-scalar}
-use Rattle.yaml_lexeme.specs.Quoted.{Mode, Quote, Turn, after-turn, chars-of, closes, goes, quoted-run, quoted-turn, scan-flow-scalar, wrong-quote}
+use Rattle.yaml_lexeme.specs.Quoted.{Mode, Quote, QuotedTurn, after-turn, chars-of, closes, goes, quoted-run, quoted-turn, scan-flow-scalar, wrong-quote}
 
 abbrev pub FitsRun : Place → Run → Type 0
 FitsRun p r = Fits p (r .place)
@@ -34,7 +34,7 @@ pub blanks-fit : (m : Mark) (cs : List ℕ) → Fits (here m cs) (blanks m cs)
 unfolding blanks
 blanks-fit m [] = fits-refl _
 blanks-fit m (c ∷ cs) =
-    by-test (isBlank c)
+    by-test (is-blank c)
     (λ e. rw (e, blanks) (fits-along m c cs (blanks-fit (along m) cs)))
     (λ e. rw (e, blanks) (fits-refl _))
 
@@ -42,7 +42,7 @@ pub to-break-fit : (m : Mark) (cs : List ℕ) → Fits (here m cs) (to-break m c
 unfolding to-break
 to-break-fit m [] = fits-refl _
 to-break-fit m (c ∷ cs) =
-    by-test (isBreak c)
+    by-test (is-break c)
     (λ e. rw (e, to-break) (fits-refl _))
     (λ e. rw (e, to-break) (fits-along m c cs (to-break-fit (along m) cs)))
 
@@ -60,7 +60,7 @@ comment-after-fit false p =
 pub blanks-and-comment-fit : (p : Place) → All Place (Fits p) (blanks-and-comment p)
 unfolding blanks-and-comment
 blanks-and-comment-fit p =
-    all-weak (λ q f. fits-trans (blanks-fit (p .mark) (p .rest)) f) (comment-after-fit (isBlank (look p)) (blanks (p .mark) (p .rest)))
+    all-weak (λ q f. fits-trans (blanks-fit (p .mark) (p .rest)) f) (comment-after-fit (is-blank (look p)) (blanks (p .mark) (p .rest)))
 
 gap-turned : {P : Gap → Type 0} (t : GapTurn) (go : Before → Bool → Read Gap) (end : Gap) → ((b : Before) (a : Bool) → All Gap P (go b a)) → P end
     → All Gap P (after-gap-turn t go end)
@@ -84,9 +84,9 @@ plain-text-fit flow blank m [] = fits-refl _
 plain-text-fit flow blank m (c ∷ cs) =
     by-test (plain-stops flow blank c (peek cs 0))
     (λ e. rw (e, plain-text) (fits-refl _))
-    (λ e. let r = plain-text flow (isBlank c) (along m) cs in
-    rw (e, plain-text) (by-pick (FitsRun (here m (c ∷ cs))) (isBlank c && none-left (r .text)) (nothing-at (here m (c ∷ cs))) (before-run (c ∷ []) r)
-    (fits-refl _) (fits-along m c cs (plain-text-fit flow (isBlank c) (along m) cs))))
+    (λ e. let r = plain-text flow (is-blank c) (along m) cs in
+    rw (e, plain-text) (by-pick (FitsRun (here m (c ∷ cs))) (is-blank c && none-left (r .text)) (nothing-at (here m (c ∷ cs))) (before-run (c ∷ []) r)
+    (fits-refl _) (fits-along m c cs (plain-text-fit flow (is-blank c) (along m) cs))))
 
 pub plain-fit : (flow : Bool) (p : Place) → Reads (p .mark) (skip-by 1 p) (scan-plain-scalar flow p)
 unfolding scan-plain-scalar
@@ -99,7 +99,7 @@ unfolding before-read
 before-fit t (holds h) = holds h
 before-fit t not-read = not-read
 
-turned : {q : Place} (t : Turn) (go : Mode → ℕ → Read Run) (p : Place) → ((b : Mode) (k : ℕ) → All Run (FitsRun q) (go b k)) → Fits q p
+turned : {q : Place} (t : QuotedTurn) (go : Mode → ℕ → Read Run) (p : Place) → ((b : Mode) (k : ℕ) → All Run (FitsRun q) (go b k)) → Fits q p
     → All Run (FitsRun q) (after-turn t go p)
 turned (goes t b k) go p h i = before-fit t (h b k)
 turned (closes t) go p h i = holds i

@@ -8,7 +8,7 @@ use Rattle.yaml_lexeme.specs.declared.Before.{Before}
 use Rattle.yaml_lexeme.specs.declared.Before.the-variants.{AfterText, InComment, Leading, Spaced, Tabbed}
 use Rattle.yaml_text.specs.Pick.{pick}
 use Rattle.yaml_text.specs.Char.{'#', tab}
-use Rattle.yaml_text.specs.Class.{isBlank, isBreak, peek}
+use Rattle.yaml_text.specs.Class.{is-blank, is-break, peek}
 use Rattle.yaml_text.specs.Mark.{Place, along, here, look, over}
 use Rattle.yaml_text.specs.Refusal.{Read, got, refused}
 
@@ -47,22 +47,22 @@ on-other InComment = pass InComment false
 -- a break at flow level 0 allows a simple key; comments run to the break
 unfoldable pub gap-turn : Bool → Before → Mark → ℕ → GapTurn
 gap-turn flow b m c =
-    pick (isBreak c) (pass Leading (not flow))
-    (pick (isBlank c) (pass (on-blank flow m c b) false)
+    pick (is-break c) (pass Leading (not flow))
+    (pick (is-blank c) (pass (on-blank flow m c b) false)
     (pick (eqb c '#') (on-hash m b) (on-other b)))
 
 -- only blanks stand between the line's start and here
-unfoldable pub isLeading : Before → Bool
-isLeading Leading = true
-isLeading (Tabbed t) = true
-isLeading Spaced = false
-isLeading AfterText = false
-isLeading InComment = false
+unfoldable pub is-leading : Before → Bool
+is-leading Leading = true
+is-leading (Tabbed t) = true
+is-leading Spaced = false
+is-leading AfterText = false
+is-leading InComment = false
 
 pub record Gap : Type 0 where
   pub place : Place
-  pub allowed : Bool
-  pub leads : Bool
+  pub simple-key-allowed : Bool
+  pub leading-whitespace : Bool
 
 abbrev pub after-gap-turn : GapTurn → (Before → Bool → Read Gap) → Gap → Read Gap
 after-gap-turn (pass b allows) go end = go b allows
@@ -71,17 +71,17 @@ after-gap-turn (wrong n m) go end = refused n m
 
 -- the gap that begins here: behind b, with a simple key allowed or not
 unfoldable pub skip-gap : Bool → Bool → Before → Mark → List ℕ → Read Gap
-skip-gap flow allowed b m [] = got (record { place = here m []; allowed = allowed; leads = isLeading b })
+skip-gap flow allowed b m [] = got (record { place = here m []; simple-key-allowed = allowed; leading-whitespace = is-leading b })
 skip-gap flow allowed b m (c ∷ cs) =
     after-gap-turn (gap-turn flow b m c)
     (λ b' allows. skip-gap flow (allowed || allows) b' (over m c (peek cs 0)) cs)
-    (record { place = here m (c ∷ cs); allowed = allowed; leads = isLeading b })
+    (record { place = here m (c ∷ cs); simple-key-allowed = allowed; leading-whitespace = is-leading b })
 
 -- past the blanks here
 unfoldable pub blanks : Mark → List ℕ → Place
 blanks m [] = here m []
 blanks m (c ∷ cs) =
-    elim (isBlank c) [
+    elim (is-blank c) [
       | true ↦ blanks (along m) cs
       | false ↦ here m (c ∷ cs)
     ]
@@ -90,7 +90,7 @@ blanks m (c ∷ cs) =
 unfoldable pub to-break : Mark → List ℕ → Place
 to-break m [] = here m []
 to-break m (c ∷ cs) =
-    elim (isBreak c) [
+    elim (is-break c) [
       | true ↦ here m (c ∷ cs)
       | false ↦ to-break (along m) cs
     ]
@@ -108,4 +108,4 @@ comment-after blank p =
 
 -- the blanks and comment read after a directive, a block header, a quoted scalar, a bracket, ',' and `...` [I1, I2]
 unfoldable pub blanks-and-comment : Place → Read Place
-blanks-and-comment p = comment-after (isBlank (look p)) (blanks (p .mark) (p .rest))
+blanks-and-comment p = comment-after (is-blank (look p)) (blanks (p .mark) (p .rest))

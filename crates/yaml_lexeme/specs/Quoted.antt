@@ -6,14 +6,15 @@ use lib.Dec.{eqb, ltb}
 use lib.ListN.{drop, replicate}
 use Rattle.yaml_text.specs.declared.Mark.{Mark}
 use Rattle.yaml_text.specs.Pick.{pick}
-use Rattle.yaml_text.specs.Char.{':', ']', backslash, close-brace, comma, double-quote, line-feed, single-quote, space, tab}
-use Rattle.yaml_text.specs.Class.{among, isBlank, isBreak, isBreakz, peek}
-use Rattle.yaml_text.specs.Mark.{Place, Run, along, break-length, edge-of, halfBreak, here, isMarker, look, over}
+use Rattle.yaml_text.specs.Char.{':', ']', backslash, close-brace, comma, double-quote, line-feed, single-quote, tab}
+use Rattle.yaml_text.specs.Class.{among, is-blank, is-break, is-breakz, peek}
+use Rattle.yaml_text.specs.Mark.{Place, Run, along, break-length, edge-of, half-break, here, is-marker, look, over}
 use Rattle.yaml_text.specs.Refusal.{Read, _>>=_, before-read, got, need, refused}
 use Rattle.yaml_lexeme.specs.declared.Style.the-variants.{DoubleQuoted, SingleQuoted}
 use Rattle.yaml_lexeme.specs.Token.{Lexeme, Scalar, lexeme}
 use Rattle.yaml_lexeme.specs.Gap.{blanks-and-comment}
 use Rattle.yaml_lexeme.specs.Escape.{Escaped, escape}
+use Rattle.yaml_lexeme.specs.Fold.{fold}
 
 -- what holds for the whole scalar
 pub record Quote : Type 0 where
@@ -36,23 +37,22 @@ pub data Mode : Type 0 where
   joined : ℕ → Bool → Mode
 
 -- a turn over one character
-pub data Turn : Type 0 where
+pub data QuotedTurn : Type 0 where
   -- put this text, go on behind the character and n more
-  goes : List ℕ → Mode → ℕ → Turn
+  goes : List ℕ → Mode → ℕ → QuotedTurn
   -- the closing quote, after this text
-  closes : List ℕ → Turn
-  wrong-quote : ℕ → Mark → Turn
+  closes : List ℕ → QuotedTurn
+  wrong-quote : ℕ → Mark → QuotedTurn
 
--- what blanks and breaks become once text follows (6.5): a single break is a space, an escaped one nothing
+-- what blanks and breaks become once text follows; an escaped break is nothing
 unfoldable pub folds-to : Mode → List ℕ
 folds-to chars-of = []
 folds-to (blanks-of bs) = bs
-folds-to (folded zero) = space ∷ []
-folds-to (folded (suc n)) = replicate (suc n) line-feed
+folds-to (folded n) = fold (suc n)
 folds-to (joined n fresh) = replicate n line-feed
 
 -- 36: a tab as indentation, after a break [D8]
-unfoldable pub quoted-blank : Quote → Mark → ℕ → Mode → Turn
+unfoldable pub quoted-blank : Quote → Mark → ℕ → Mode → QuotedTurn
 quoted-blank q m c chars-of = goes [] (blanks-of (c ∷ [])) 0
 quoted-blank q m c (blanks-of bs) = goes [] (blanks-of (bs ++ (c ∷ []))) 0
 quoted-blank q m c (folded n) = pick (eqb c tab && ltb (edge-of m) (q .indent)) (wrong-quote 36 m) (goes [] (folded n) 0)
@@ -66,20 +66,20 @@ broken (folded n) = folded (suc n)
 broken (joined n fresh) = joined (suc n) false
 
 -- the CR of a CR LF is passed over
-unfoldable pub quoted-break : Mode → ℕ → ℕ → Turn
-quoted-break b c d = pick (halfBreak c d) (goes [] b 0) (goes [] (broken b) 0)
+unfoldable pub quoted-break : Mode → ℕ → ℕ → QuotedTurn
+quoted-break b c d = pick (half-break c d) (goes [] b 0) (goes [] (broken b) 0)
 
-abbrev pub escape-turn : List ℕ → Read Escaped → Turn
+abbrev pub escape-turn : List ℕ → Read Escaped → QuotedTurn
 escape-turn t (got e) = goes (t ++ (e .char ∷ [])) chars-of (e .took)
 escape-turn t (refused n m) = wrong-quote n m
 
 -- a character of the text: t stands before it. cs: the text behind it [E9]
-unfoldable pub quoted-char : Quote → List ℕ → ℕ → List ℕ → Turn
+unfoldable pub quoted-char : Quote → List ℕ → ℕ → List ℕ → QuotedTurn
 quoted-char q t c cs =
     elim (eqb c (quote-char q)) [
       | true ↦ pick (q .single && eqb (peek cs 0) single-quote) (goes (t ++ (single-quote ∷ [])) chars-of 1) (closes t)
       | false ↦ elim (not (q .single) && eqb c backslash) [
-        | true ↦ elim (isBreak (peek cs 0)) [
+        | true ↦ elim (is-break (peek cs 0)) [
           | true ↦ goes t (joined 0 true) (break-length cs)
           | false ↦ escape-turn t (escape (q .start) cs)
         ]
@@ -88,9 +88,9 @@ quoted-char q t c cs =
     ]
 
 -- 33: a document marker; 35: a column below the indent. Looked at where text follows blanks and breaks [E3, E8]
-unfoldable pub quoted-line : Quote → Mode → Mark → ℕ → List ℕ → Turn
+unfoldable pub quoted-line : Quote → Mode → Mark → ℕ → List ℕ → QuotedTurn
 quoted-line q b m c cs =
-    elim (isMarker m (c ∷ cs)) [
+    elim (is-marker m (c ∷ cs)) [
       | true ↦ wrong-quote 33 (q .start)
       | false ↦ elim (ltb (edge-of m) (q .indent)) [
         | true ↦ wrong-quote 35 (q .start)
@@ -99,7 +99,7 @@ quoted-line q b m c cs =
     ]
 
 -- directly behind an escaped break the closing quote is not held against the indent [E1]
-unfoldable pub quoted-text : Quote → Mode → Mark → ℕ → List ℕ → Turn
+unfoldable pub quoted-text : Quote → Mode → Mark → ℕ → List ℕ → QuotedTurn
 quoted-text q chars-of m c cs = quoted-char q [] c cs
 quoted-text q (blanks-of bs) m c cs = quoted-line q (blanks-of bs) m c cs
 quoted-text q (folded n) m c cs = quoted-line q (folded n) m c cs
@@ -111,17 +111,17 @@ quoted-text q (joined n true) m c cs =
     ]
 
 -- blanks and breaks are kept back until text follows
-unfoldable pub quoted-turn : Quote → Mode → Mark → ℕ → List ℕ → Turn
+unfoldable pub quoted-turn : Quote → Mode → Mark → ℕ → List ℕ → QuotedTurn
 quoted-turn q b m c cs =
-    elim (isBlank c) [
+    elim (is-blank c) [
       | true ↦ quoted-blank q m c b
-      | false ↦ elim (isBreak c) [
+      | false ↦ elim (is-break c) [
         | true ↦ quoted-break b c (peek cs 0)
         | false ↦ quoted-text q b m c cs
       ]
     ]
 
-abbrev pub after-turn : Turn → (Mode → ℕ → Read Run) → Place → Read Run
+abbrev pub after-turn : QuotedTurn → (Mode → ℕ → Read Run) → Place → Read Run
 after-turn (goes t b n) go p = before-read t (go b n)
 after-turn (closes t) go p = got (record { text = t; place = p })
 after-turn (wrong-quote n m) go p = refused n m
@@ -138,7 +138,7 @@ quoted-run q b (suc k) m (c ∷ cs) = quoted-run q b k (over m c (peek cs 0)) cs
 -- 40: what may follow a quoted scalar [E4 to E6]
 unfoldable pub fits-after : Bool → Bool → ℕ → Bool
 fits-after flow same-line c =
-    isBreakz c || (flow && among c (comma ∷ ']' ∷ close-brace ∷ [])) || (eqb c ':' && (flow || same-line))
+    is-breakz c || (flow && among c (comma ∷ ']' ∷ close-brace ∷ [])) || (eqb c ':' && (flow || same-line))
 
 -- from its opening quote; the span takes in the blanks and comment behind it
 unfoldable pub scan-flow-scalar : Bool → Bool → ℕ → Place → Read Lexeme

@@ -7,21 +7,21 @@ use native.Mathlib.Omega.{arith}
 use lib.Dec.{eqb, ltb}
 use lib.ListN.{drop, length}
 use Rattle.yaml_text.specs.declared.Mark.{Mark}
-use Rattle.yaml_text.specs.Char.{backslash, single-quote, space, tab}
-use Rattle.yaml_text.specs.Utf8.{bytesOf}
-use Rattle.yaml_text.specs.Class.{isBlank, isBreak, peek}
-use Rattle.yaml_text.specs.Mark.{Place, Run, along, break-length, edge-of, halfBreak, here, isMarker, over}
+use Rattle.yaml_text.specs.Char.{backslash, single-quote, tab}
+use Rattle.yaml_text.specs.Utf8.{char-bytes}
+use Rattle.yaml_text.specs.Class.{is-blank, is-break, peek}
+use Rattle.yaml_text.specs.Mark.{Place, Run, along, break-length, edge-of, half-break, here, is-marker, over}
 use Rattle.yaml_text.specs.Refusal.{Read, got, refused}
 use Rattle.yaml_text.specs.Test.{by-pick, by-test}
 use Rattle.yaml_text.specs.All.{All, all-bind, all-need, holds, not-read}
 use Rattle.yaml_lexeme.specs.Token.{Lexeme, kind-bytes, size}
 use Rattle.yaml_lexeme.specs.Role.{role}
 use Rattle.yaml_lexeme.specs.Escape.{Escaped, escape}
-use Rattle.yaml_lexeme.specs.Quoted.{Mode, Quote, Turn, after-turn, blanks-of, broken, chars-of, closes, escape-turn, folded, folds-to, goes, joined, quote-char, quoted-blank, quoted-break, quoted-char, quoted-line, quoted-run, quoted-text, quoted-turn, scan-flow-scalar, wrong-quote}
+use Rattle.yaml_lexeme.specs.Quoted.{Mode, Quote, QuotedTurn, after-turn, blanks-of, broken, chars-of, closes, escape-turn, folded, folds-to, goes, joined, quote-char, quoted-blank, quoted-break, quoted-char, quoted-line, quoted-run, quoted-text, quoted-turn, scan-flow-scalar, wrong-quote}
 use Rattle.yaml_lexeme.specs.Fits.{blanks-and-comment-fit}
 use Rattle.yaml_lexeme.specs.EscapeFits.{Took, escape-fit}
 use Rattle.yaml_lexeme.specs.EscapeSizes.{PaysEscape, escape-pays}
-use Rattle.yaml_lexeme.specs.Sizes.{Lexed, PaysRun, all-before, drop-less, size-append, size-cons, size-drop, size-feeds, size-fits, size-nil, size-one, width-some}
+use Rattle.yaml_lexeme.specs.Sizes.{Lexed, PaysRun, all-before, drop-less, fold-size, size-append, size-cons, size-drop, size-feeds, size-fits, size-nil, size-one, width-some}
 
 -- the bytes that were paid for what is kept back
 abbrev owed : Mode → ℕ
@@ -31,15 +31,14 @@ owed (folded n) = suc n
 owed (joined n fresh) = n
 
 folds-paid : (b : Mode) → size (folds-to b) ≤ owed b
-unfolding folds-to bytesOf
+unfolding folds-to
 folds-paid chars-of = omega (arith, size-nil)
 folds-paid (blanks-of bs) = omega arith
-folds-paid (folded zero) = omega (arith, size-one space)
-folds-paid (folded (suc n)) = omega (arith, size-feeds (suc n))
+folds-paid (folded n) = fold-size (suc n)
 folds-paid (joined n fresh) = omega (arith, size-feeds n)
 
 -- a turn over the character c, k bytes being paid before
-abbrev PaysTurn : ℕ → ℕ → List ℕ → Turn → Type 0
+abbrev PaysTurn : ℕ → ℕ → List ℕ → QuotedTurn → Type 0
 PaysTurn k c cs (goes t b n) = 2 * size t + 2 * owed b + 3 * size (drop n cs) ≤ 2 * k + 3 * size (c ∷ cs)
 PaysTurn k c cs (closes t) = 2 * size t + 3 * size cs ≤ 2 * k + 3 * size (c ∷ cs)
 PaysTurn k c cs (wrong-quote n m) = Unit {0}
@@ -63,7 +62,7 @@ broken-paid (joined n fresh) = omega arith
 break-pays : (c d : ℕ) (cs : List ℕ) (b : Mode) → PaysTurn (owed b) c cs (quoted-break b c d)
 unfolding quoted-break
 break-pays c d cs b =
-    by-pick (PaysTurn (owed b) c cs) (halfBreak c d) _ _ (omega (arith, size-nil, size-cons c cs))
+    by-pick (PaysTurn (owed b) c cs) (half-break c d) _ _ (omega (arith, size-nil, size-cons c cs))
     (omega (arith, size-nil, size-cons c cs, width-some c .0, broken-paid b))
 
 -- a character, behind the text t
@@ -74,14 +73,14 @@ module _ (k : ℕ) (t : List ℕ) (paid : size t ≤ k) (c : ℕ) (cs : List ℕ
   escape-turn-pays (refused n m) f h = tt
 
   char-pays : (q : Quote) → PaysTurn k c cs (quoted-char q t c cs)
-  unfolding quoted-char bytesOf
+  unfolding quoted-char char-bytes
   char-pays q =
       by-test (eqb c (quote-char q))
       (λ e. rw (e, quoted-char) (by-pick (PaysTurn k c cs) (q .single && eqb (peek cs 0) single-quote) _ _
       (omega (arith, size-append t (single-quote ∷ []), size-one single-quote, size-cons c cs, width-some c .0, drop-less 1 cs))
       (omega (arith, size-cons c cs))))
       (λ e. by-test (not (q .single) && eqb c backslash)
-      (λ f. by-test (isBreak (peek cs 0))
+      (λ f. by-test (is-break (peek cs 0))
       (λ g. rw (e, f, g, quoted-char) (omega (arith, size-cons c cs, drop-less (break-length cs) cs)))
       (λ g. rw (e, f, g, quoted-char) (escape-turn-pays (escape (q .start) cs) (escape-fit (q .start) cs) (escape-pays (q .start) cs))))
       (λ f. rw (e, f, quoted-char) (omega (arith, size-append t (c ∷ []), size-one c, size-cons c cs))))
@@ -89,7 +88,7 @@ module _ (k : ℕ) (t : List ℕ) (paid : size t ≤ k) (c : ℕ) (cs : List ℕ
 line-pays : (q : Quote) (b : Mode) (m : Mark) (c : ℕ) (cs : List ℕ) → PaysTurn (owed b) c cs (quoted-line q b m c cs)
 unfolding quoted-line
 line-pays q b m c cs =
-    by-test (isMarker m (c ∷ cs))
+    by-test (is-marker m (c ∷ cs))
     (λ e. rw (e, quoted-line) tt)
     (λ e. by-test (ltb (edge-of m) (q .indent))
     (λ f. rw (e, f, quoted-line) tt)
@@ -109,13 +108,13 @@ text-pays q (joined n true) m c cs =
 turn-pays : (q : Quote) (b : Mode) (m : Mark) (c : ℕ) (cs : List ℕ) → PaysTurn (owed b) c cs (quoted-turn q b m c cs)
 unfolding quoted-turn
 turn-pays q b m c cs =
-    by-test (isBlank c)
+    by-test (is-blank c)
     (λ e. rw (e, quoted-turn) (blank-pays q m c cs b))
-    (λ e. by-test (isBreak c)
+    (λ e. by-test (is-break c)
     (λ f. rw (e, f, quoted-turn) (break-pays c (peek cs 0) cs b))
     (λ f. rw (e, f, quoted-turn) (text-pays q b m c cs)))
 
-turned-pays : (k c : ℕ) (cs : List ℕ) (m : Mark) (t : Turn) (go : Mode → ℕ → Read Run) → PaysTurn k c cs t
+turned-pays : (k c : ℕ) (cs : List ℕ) (m : Mark) (t : QuotedTurn) (go : Mode → ℕ → Read Run) → PaysTurn k c cs t
     → ((b : Mode) (n : ℕ) → All Run (PaysRun (owed b) (drop n cs)) (go b n)) → All Run (PaysRun k (c ∷ cs)) (after-turn t go (here m cs))
 turned-pays k c cs m (goes t b n) go h f = all-before t (λ r g. omega (arith, size-append t (r .text))) (f b n)
 turned-pays k c cs m (closes t) go h f = holds h

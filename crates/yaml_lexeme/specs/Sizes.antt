@@ -8,25 +8,26 @@ use native.Mathlib.Omega.{arith}
 use lib.Dec.{ltb}
 use lib.ListN.{drop, length, length-append, replicate}
 use Rattle.yaml_text.specs.declared.Mark.{Mark}
-use Rattle.yaml_text.specs.Char.{line-feed}
-use Rattle.yaml_text.specs.Class.{isBlank, none-left, peek}
-use Rattle.yaml_text.specs.Utf8.{bytesOf, encode}
-use Rattle.yaml_text.specs.Mark.{Place, Run, along, before-run, here, look, nothing-at, word}
+use Rattle.yaml_text.specs.Char.{line-feed, space}
+use Rattle.yaml_text.specs.Class.{is-blank, none-left, peek}
+use Rattle.yaml_text.specs.Utf8.{char-bytes, encode}
+use Rattle.yaml_text.specs.Mark.{Place, Run, along, before-run, here, look, nothing-at, run-of}
 use Rattle.yaml_text.specs.Refusal.{Read, before-read}
 use Rattle.yaml_text.specs.Test.{by-pick, by-test}
 use Rattle.yaml_text.specs.All.{All, holds, not-read}
 use Rattle.yaml_text.specs.PlaceLaws.{Fits, left}
 use Rattle.yaml_lexeme.specs.Token.{Lexeme, kind-bytes, size, token-bytes}
 use Rattle.yaml_lexeme.specs.Role.{neither, role}
+use Rattle.yaml_lexeme.specs.Fold.{fold}
 use Rattle.yaml_lexeme.specs.Plain.{glue, plain-stops, plain-text, scan-plain-scalar}
 
 -- the bytes of a text
 
 abbrev pub width : ℕ → ℕ
-width c = length (bytesOf c)
+width c = length (char-bytes c)
 
 pub width-some : (c : ℕ) → (1 ≤ width c) × (width c ≤ 4)
-unfolding bytesOf
+unfolding char-bytes
 width-some c =
     by-pick P (ltb c 0x80) _ _ (omega arith)
     (by-pick P (ltb c 0x800) _ _ (omega arith)
@@ -37,7 +38,7 @@ width-some c =
 
 pub size-cons : (c : ℕ) (cs : List ℕ) → size (c ∷ cs) ≡ width c + size cs
 unfolding encode
-size-cons c cs = length-append (bytesOf c) (encode cs)
+size-cons c cs = length-append (char-bytes c) (encode cs)
 
 pub size-nil : size [] ≡ 0
 unfolding encode
@@ -52,9 +53,16 @@ size-append (c ∷ s) t = omega (arith, size-cons c s, size-cons c (s ++ t), siz
 
 -- line feeds take a byte each
 pub size-feeds : (n : ℕ) → size (replicate n line-feed) ≡ n
-unfolding bytesOf
+unfolding char-bytes
 size-feeds zero = size-nil
 size-feeds (suc n) = omega (arith, size-cons line-feed (replicate n line-feed), size-feeds n)
+
+-- no break becomes more than a byte
+pub fold-size : (n : ℕ) → size (fold n) ≤ n
+unfolding fold char-bytes
+fold-size zero = omega (arith, size-nil)
+fold-size (suc zero) = omega (arith, size-one space)
+fold-size (suc (suc n)) = omega (arith, size-feeds (suc n))
 
 pub size-drop : (n : ℕ) (cs : List ℕ) → n ≤ length cs → n + size (drop n cs) ≤ size cs
 size-drop zero cs h = omega arith
@@ -91,14 +99,14 @@ unfolding before-read
 all-before t f (holds {a = r} h) = holds (f r h)
 all-before t f not-read = not-read
 
-pub word-pays : (f : ℕ → Bool) (m : Mark) (cs : List ℕ) → PaysRun 0 cs (word f m cs)
-unfolding word
-word-pays f m [] = omega (arith, size-nil)
-word-pays f m (c ∷ cs) =
+pub run-of-pays : (f : ℕ → Bool) (m : Mark) (cs : List ℕ) → PaysRun 0 cs (run-of f m cs)
+unfolding run-of
+run-of-pays f m [] = omega (arith, size-nil)
+run-of-pays f m (c ∷ cs) =
     by-test (f c)
-    (λ e. let r = word f (along m) cs in
-    rw (e, word) (omega (arith, size-cons c cs, size-cons c (r .text), word-pays f (along m) cs)))
-    (λ e. rw (e, word) (omega (arith, size-nil)))
+    (λ e. let r = run-of f (along m) cs in
+    rw (e, run-of) (omega (arith, size-cons c cs, size-cons c (r .text), run-of-pays f (along m) cs)))
+    (λ e. rw (e, run-of) (omega (arith, size-nil)))
 
 -- plain scalars
 
@@ -108,9 +116,9 @@ plain-text-pays flow blank m [] = omega (arith, size-nil)
 plain-text-pays flow blank m (c ∷ cs) =
     by-test (plain-stops flow blank c (peek cs 0))
     (λ e. rw (e, plain-text) (omega (arith, size-nil)))
-    (λ e. let r = plain-text flow (isBlank c) (along m) cs in
-    rw (e, plain-text) (by-pick (PaysRun 0 (c ∷ cs)) (isBlank c && none-left (r .text)) (nothing-at (here m (c ∷ cs))) (before-run (c ∷ []) r)
-    (omega (arith, size-nil)) (omega (arith, size-cons c cs, size-cons c (r .text), plain-text-pays flow (isBlank c) (along m) cs))))
+    (λ e. let r = plain-text flow (is-blank c) (along m) cs in
+    rw (e, plain-text) (by-pick (PaysRun 0 (c ∷ cs)) (is-blank c && none-left (r .text)) (nothing-at (here m (c ∷ cs))) (before-run (c ∷ []) r)
+    (omega (arith, size-nil)) (omega (arith, size-cons c cs, size-cons c (r .text), plain-text-pays flow (is-blank c) (along m) cs))))
 
 pub plain-lexed : (flow : Bool) (p : Place) → 1 ≤ left p → Lexed 0 (p .rest) (scan-plain-scalar flow p)
 unfolding scan-plain-scalar kind-bytes role

@@ -9,15 +9,15 @@ use lib.ListN.{drop}
 use borrow.Author.Tests.{ne-eqb}
 use Rattle.yaml_text.specs.declared.Mark.{Mark}
 use Rattle.yaml_text.specs.Char.{'!', '%', '0', '<', '>', dot}
-use Rattle.yaml_text.specs.Class.{isAlpha, isAnchor, isBlank, isDigit, isNonSpace, isTag, isUri, peek, same}
-use Rattle.yaml_text.specs.Mark.{Place, Run, along, here, look, skip-by, word}
+use Rattle.yaml_text.specs.Class.{is-alpha, is-anchor, is-blank, is-digit, is-non-space, is-tag, is-uri, peek, same}
+use Rattle.yaml_text.specs.Mark.{Place, Run, along, here, look, skip-by, run-of}
 use Rattle.yaml_text.specs.Test.{by-test, on-pick}
 use Rattle.yaml_text.specs.All.{All, all-any, all-bind, all-need, all-test, all-weak, holds, not-read}
-use Rattle.yaml_text.specs.PlaceLaws.{Fits, fits-along, fits-refl, fits-trans, left, skip-break-fit, skip-fit, skip-on, there, word-fit}
+use Rattle.yaml_text.specs.PlaceLaws.{Fits, fits-along, fits-refl, fits-trans, left, skip-break-fit, skip-fit, skip-on, there, run-of-fit}
 use Rattle.yaml_lexeme.specs.Token.{Lexeme}
 use Rattle.yaml_lexeme.specs.Tag.{Texts, handled, percent, primary, scan-tag, tag-texts, uri-run, verbatim}
 use Rattle.yaml_lexeme.specs.Anchor.{scan-anchor}
-use Rattle.yaml_lexeme.specs.Directive.{Numbered, blanks-at, directive-of, parameters, reserved-directive, scan-directive, tag-directive, tag-handle, tag-prefix, version-digits, version-directive, version-number}
+use Rattle.yaml_lexeme.specs.Directive.{Numbered, blanks-at, directive-of, parameters, reserved-directive, scan-directive, tag-directive, tag-handle, tag-name, tag-prefix, version-digits, version-directive, version-number, yaml-name}
 use Rattle.yaml_lexeme.specs.Fits.{FitsRun, Reads, before-fit, blanks-and-comment-fit, blanks-fit}
 
 pub uri-run-fit : (f : ℕ → Bool) (start : Mark) (k : ℕ) (m : Mark) (cs : List ℕ) → All Run (FitsRun (here m cs)) (uri-run f start k m cs)
@@ -42,23 +42,23 @@ over-char c p h e = skip-fit 1 p (there (λ d. eqb d c) (p .rest) 0 (ne-eqb 0 c 
 verbatim-fit : (start : Mark) (p : Place) → 2 ≤ left p → All Texts (FitsTexts (skip-by 1 p)) (verbatim start p)
 unfolding verbatim
 verbatim-fit start p h =
-    all-bind _ (uri-run-fit isUri start 0 _ _)
+    all-bind _ (uri-run-fit is-uri start 0 _ _)
     (λ r f. all-test _ 20 start _ (λ e. holds (fits-trans (skip-on 1 1 p h) (fits-trans f (over-char '>' (r .place) (omega arith) e)))))
 
 handled-fit : (start : Mark) (h : List ℕ) (p : Place) → eqb (look p) '!' ≡ true → All Texts (FitsTexts p) (handled start h p)
 unfolding handled
 handled-fit start h p e =
-    all-bind _ (uri-run-fit isTag start 0 _ _) (λ r f. all-need _ 25 start _ (holds (fits-trans (over-char '!' p (omega arith) e) f)))
+    all-bind _ (uri-run-fit is-tag start 0 _ _) (λ r f. all-need _ 25 start _ (holds (fits-trans (over-char '!' p (omega arith) e) f)))
 
 primary-fit : (start : Mark) (h : List ℕ) (p : Place) → All Texts (FitsTexts p) (primary start h p)
 unfolding primary
-primary-fit start h p = all-bind _ (uri-run-fit isTag start 0 _ _) (λ r f. holds f)
+primary-fit start h p = all-bind _ (uri-run-fit is-tag start 0 _ _) (λ r f. holds f)
 
 tag-texts-fit : (start : Mark) (p : Place) → All Texts (FitsTexts (skip-by 1 p)) (tag-texts start p)
 unfolding tag-texts
 tag-texts-fit start p =
-    let h = word isAlpha (along (p .mark)) (drop 1 (p .rest)) in
-    let f = word-fit isAlpha (along (p .mark)) (drop 1 (p .rest)) in
+    let h = run-of is-alpha (along (p .mark)) (drop 1 (p .rest)) in
+    let f = run-of-fit is-alpha (along (p .mark)) (drop 1 (p .rest)) in
     by-test (eqb (peek (p .rest) 1) '<')
     (λ e. rw (e, tag-texts) (verbatim-fit start p (there (λ c. eqb c '<') (p .rest) 1 refl e)))
     (λ e. by-test (eqb (look (h .place)) '!')
@@ -71,7 +71,7 @@ tag-fit flow p = all-bind _ (tag-texts-fit (p .mark) p) (λ t f. all-need _ 26 (
 
 pub anchor-fit : (alias : Bool) (p : Place) → All Lexeme (Reads (p .mark) (skip-by 1 p)) (scan-anchor alias p)
 unfolding scan-anchor
-anchor-fit alias p = all-need _ 27 (p .mark) _ (holds (record { onward = word-fit isAnchor (along (p .mark)) (drop 1 (p .rest)); starts = refl }))
+anchor-fit alias p = all-need _ 27 (p .mark) _ (holds (record { onward = run-of-fit is-anchor (along (p .mark)) (drop 1 (p .rest)); starts = refl }))
 
 -- directives
 
@@ -82,7 +82,7 @@ pub version-digits-fit : (start : Mark) (n v : ℕ) (m : Mark) (cs : List ℕ) �
 unfolding version-digits
 version-digits-fit start n v m [] = holds (fits-refl _)
 version-digits-fit start n v m (c ∷ cs) =
-    by-test (isDigit c)
+    by-test (is-digit c)
     (λ e. by-test (ltb n 9)
     (λ f. rw (e, f, version-digits) (all-weak (λ r g. fits-along m c cs g) (version-digits-fit start (suc n) (v * 10 + (c - '0')) (along m) cs)))
     (λ f. rw (e, f, version-digits) not-read))
@@ -105,16 +105,16 @@ version-directive-fit start p =
 tag-handle-fit : (start : Mark) (p : Place) → All Run (FitsRun p) (tag-handle start p)
 unfolding tag-handle
 tag-handle-fit start p =
-    let w = word isAlpha (along (p .mark)) (drop 1 (p .rest)) in
+    let w = run-of is-alpha (along (p .mark)) (drop 1 (p .rest)) in
     all-test _ 16 start _ (λ e. all-need _ 17 start _
-    (let f : FitsRun p w = fits-trans (over-char '!' p (omega arith) e) (word-fit isAlpha (along (p .mark)) (drop 1 (p .rest))) in
+    (let f : FitsRun p w = fits-trans (over-char '!' p (omega arith) e) (run-of-fit is-alpha (along (p .mark)) (drop 1 (p .rest))) in
     holds (on-pick (FitsRun p) (eqb (look (w .place)) '!') (λ g. fits-trans f (over-char '!' (w .place) (omega arith) g)) (λ _. f))))
 
 tag-directive-fit : (start : Mark) (p : Place) → All Lexeme (Reads start p) (tag-directive start p)
 unfolding tag-directive tag-prefix
 tag-directive-fit start p =
     all-bind _ (tag-handle-fit start (blanks-at p))
-    (λ a f. all-bind _ (all-need _ 18 start _ (uri-run-fit isUri start 0 _ _))
+    (λ a f. all-bind _ (all-need _ 18 start _ (uri-run-fit is-uri start 0 _ _))
     (λ b g. all-need _ 19 start _
     (holds (record { onward = fits-trans (fits-trans (blanks-at-fit p) f) (fits-trans (blanks-at-fit (a .place)) g); starts = refl }))))
 
@@ -122,25 +122,25 @@ pub parameters-fit : (some blank : Bool) (m : Mark) (cs : List ℕ) → FitsRun 
 unfolding parameters
 parameters-fit some blank m [] = fits-refl _
 parameters-fit some blank m (c ∷ cs) =
-    by-test (isBlank c)
+    by-test (is-blank c)
     (λ e. rw (e, parameters) (fits-along m c cs (parameters-fit some true (along m) cs)))
-    (λ e. by-test (isNonSpace c)
+    (λ e. by-test (is-non-space c)
     (λ f. rw (e, f, parameters) (fits-along m c cs (parameters-fit true false (along m) cs)))
     (λ f. rw (e, f, parameters) (fits-refl _)))
 
 directive-of-fit : (start : Mark) (name : List ℕ) (p : Place) → All Lexeme (Reads start p) (directive-of start name p)
 unfolding directive-of reserved-directive
 directive-of-fit start name p =
-    by-test (same name (89 ∷ 65 ∷ 77 ∷ 76 ∷ []))
+    by-test (same name yaml-name)
     (λ e. rw (e, directive-of) (version-directive-fit start p))
-    (λ e. by-test (same name (84 ∷ 65 ∷ 71 ∷ []))
+    (λ e. by-test (same name tag-name)
     (λ f. rw (e, f, directive-of) (tag-directive-fit start p))
     (λ f. rw (e, f, directive-of) (holds (record { onward = parameters-fit false false (p .mark) (p .rest); starts = refl }))))
 
 pub directive-fit : (p : Place) → All Lexeme (Reads (p .mark) (skip-by 1 p)) (scan-directive p)
 unfolding scan-directive
 directive-fit p =
-    let f = word-fit isNonSpace (along (p .mark)) (drop 1 (p .rest)) in
+    let f = run-of-fit is-non-space (along (p .mark)) (drop 1 (p .rest)) in
     all-need _ 10 (along (p .mark)) _ (all-need _ 11 (along (p .mark)) _
     (all-bind _ (directive-of-fit (p .mark) _ _)
     (λ l r. all-bind _ (blanks-and-comment-fit (l .place))

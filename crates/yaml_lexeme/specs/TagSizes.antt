@@ -9,9 +9,9 @@ use lib.ListN.{drop, length, length-append}
 use Rattle.yaml_text.specs.declared.Mark.{Mark}
 use Rattle.yaml_text.specs.Pick.{pick}
 use Rattle.yaml_text.specs.Char.{'!', '%', '<', space}
-use Rattle.yaml_text.specs.Utf8.{bytesOf, encode}
-use Rattle.yaml_text.specs.Class.{isAlpha, isAnchor, isBlank, isNonSpace, isTag, isUri, none-left, peek, same}
-use Rattle.yaml_text.specs.Mark.{Place, Run, along, here, look, nothing-at, skip-by, word}
+use Rattle.yaml_text.specs.Utf8.{char-bytes, encode}
+use Rattle.yaml_text.specs.Class.{is-alpha, is-anchor, is-blank, is-non-space, is-tag, is-uri, none-left, peek, same}
+use Rattle.yaml_text.specs.Mark.{Place, Run, along, here, look, nothing-at, skip-by, run-of}
 use Rattle.yaml_text.specs.Test.{by-pick, by-test, on-pick}
 use Rattle.yaml_text.specs.All.{All, all-any, all-bind, all-both, all-need, all-test, all-weak, holds}
 use Rattle.yaml_text.specs.PlaceLaws.{left, skip-break-fit, there}
@@ -19,12 +19,12 @@ use Rattle.yaml_lexeme.specs.Token.{Kind, Lexeme, kind-bytes, size, toke
 use Rattle.yaml_lexeme.specs.Role.{neither, role}
 use Rattle.yaml_lexeme.specs.Tag.{Texts, handled, primary, scan-tag, tag-texts, uri-run, verbatim}
 use Rattle.yaml_lexeme.specs.Anchor.{scan-anchor}
-use Rattle.yaml_lexeme.specs.Directive.{blanks-at, directive-of, parameters, reserved-directive, scan-directive, tag-directive, tag-handle, tag-prefix, version-directive, version-number}
+use Rattle.yaml_lexeme.specs.Directive.{blanks-at, directive-of, parameters, reserved-directive, scan-directive, tag-directive, tag-handle, tag-name, tag-prefix, version-directive, version-number, yaml-name}
 use Rattle.yaml_lexeme.specs.Fits.{blanks-and-comment-fit, blanks-fit}
 use Rattle.yaml_lexeme.specs.EscapeFits.{percent-fit}
 use Rattle.yaml_lexeme.specs.EscapeSizes.{percent-pays}
 use Rattle.yaml_lexeme.specs.TagFits.{version-directive-fit}
-use Rattle.yaml_lexeme.specs.Sizes.{Lexed, Pays, PaysRun, all-before, drop-less, size-append, size-cons, size-drop, size-fits, size-first, size-nil, size-one, width, width-some, word-pays}
+use Rattle.yaml_lexeme.specs.Sizes.{Lexed, Pays, PaysRun, all-before, drop-less, size-append, size-cons, size-drop, size-fits, size-first, size-nil, size-one, width, width-some, run-of-pays}
 
 uri-run-pays : (f : ℕ → Bool) (start : Mark) (k : ℕ) (m : Mark) (cs : List ℕ) → All Run (PaysRun 0 (drop k cs)) (uri-run f start k m cs)
 unfolding uri-run
@@ -48,23 +48,23 @@ PaysTexts k cs t = Pays k cs (size (t .one) + size (t .other)) (t .place .rest)
 verbatim-pays : (start : Mark) (p : Place) → All Texts (PaysTexts 0 (p .rest)) (verbatim start p)
 unfolding verbatim
 verbatim-pays start p =
-    all-bind _ (uri-run-pays isUri start 0 _ _)
+    all-bind _ (uri-run-pays is-uri start 0 _ _)
     (λ r h. all-need _ 20 start _ (let k : Pays 0 (p .rest) (size [] + size (r .text)) (drop 1 (r .place .rest)) =
     omega (arith, size-nil, drop-less 2 (p .rest), drop-less 1 (r .place .rest)) in holds k))
 
 -- '!' and the handle h were taken
 
 handled-pays : (start : Mark) (h : List ℕ) (p : Place) → 1 ≤ left p → All Texts (PaysTexts (1 + size h) (p .rest)) (handled start h p)
-unfolding handled bytesOf
+unfolding handled char-bytes
 handled-pays start h p some =
-    all-bind _ (uri-run-pays isTag start 0 _ _)
+    all-bind _ (uri-run-pays is-tag start 0 _ _)
     (λ r i. all-need _ 25 start _ (let k : Pays (1 + size h) (p .rest) (size ('!' ∷ h ++ ('!' ∷ [])) + size (r .text)) (r .place .rest) =
     omega (arith, size-cons '!' (h ++ ('!' ∷ [])), size-append h ('!' ∷ []), size-one '!', size-first (p .rest) some, width-some (look p) .0) in holds k))
 
 primary-pays : (start : Mark) (h : List ℕ) (p : Place) → All Texts (PaysTexts (1 + size h) (p .rest)) (primary start h p)
-unfolding primary bytesOf
+unfolding primary char-bytes
 primary-pays start h p =
-    all-bind _ (uri-run-pays isTag start 0 _ _)
+    all-bind _ (uri-run-pays is-tag start 0 _ _)
     (λ r i. let s = h ++ r .text in
     let k : Pays (1 + size h) (p .rest) (size (pick (none-left s) [] ('!' ∷ [])) + size (pick (none-left s) ('!' ∷ []) s)) (r .place .rest) =
     omega (arith, size-append h (r .text), texts-one (none-left s) s) in holds k)
@@ -76,8 +76,8 @@ primary-pays start h p =
 tag-texts-pays : (start : Mark) (p : Place) → 1 ≤ left p → All Texts (PaysTexts 0 (p .rest)) (tag-texts start p)
 unfolding tag-texts
 tag-texts-pays start p some =
-    let h = word isAlpha (along (p .mark)) (drop 1 (p .rest)) in
-    let i = word-pays isAlpha (along (p .mark)) (drop 1 (p .rest)) in
+    let h = run-of is-alpha (along (p .mark)) (drop 1 (p .rest)) in
+    let i = run-of-pays is-alpha (along (p .mark)) (drop 1 (p .rest)) in
     let f = size-first (p .rest) some in
     let w = width-some (look p) .0 in
     by-test (eqb (peek (p .rest) 1) '<')
@@ -95,8 +95,8 @@ tag-lexed flow p some =
 pub anchor-lexed : (alias : Bool) (p : Place) → All Lexeme (Lexed 0 (p .rest)) (scan-anchor alias p)
 unfolding scan-anchor kind-bytes role
 anchor-lexed alias p =
-    let r = word isAnchor (along (p .mark)) (drop 1 (p .rest)) in
-    let h : Pays 0 (p .rest) (size (r .text)) (r .place .rest) = omega (arith, word-pays isAnchor (along (p .mark)) (drop 1 (p .rest)), drop-less 1 (p .rest)) in
+    let r = run-of is-anchor (along (p .mark)) (drop 1 (p .rest)) in
+    let h : Pays 0 (p .rest) (size (r .text)) (r .place .rest) = omega (arith, run-of-pays is-anchor (along (p .mark)) (drop 1 (p .rest)), drop-less 1 (p .rest)) in
     all-need _ 27 (p .mark) _ (holds (record {
       neutral = by-pick (λ (k : Kind). role k ≡ neither) alias _ _ refl refl;
       paid = by-pick (λ (k : Kind). Pays 0 (p .rest) (length (kind-bytes k)) (r .place .rest)) alias _ _ h h;
@@ -111,10 +111,10 @@ version-silent start p =
     (λ a _. all-need _ 13 start _ (all-bind _ (all-any (version-number start (skip-by 1 (a .place)))) (λ b _. holds (refl, refl))))
 
 handle-pays : (start : Mark) (p : Place) → All Run (PaysRun 0 (p .rest)) (tag-handle start p)
-unfolding tag-handle bytesOf
+unfolding tag-handle char-bytes
 handle-pays start p =
-    let w = word isAlpha (along (p .mark)) (drop 1 (p .rest)) in
-    let i = word-pays isAlpha (along (p .mark)) (drop 1 (p .rest)) in
+    let w = run-of is-alpha (along (p .mark)) (drop 1 (p .rest)) in
+    let i = run-of-pays is-alpha (along (p .mark)) (drop 1 (p .rest)) in
     all-test _ 16 start _ (λ e. all-need _ 17 start _
     (let f = size-first (p .rest) (there (λ d. eqb d '!') (p .rest) 0 refl e) in
     let n = width-some (look p) .0 in
@@ -126,7 +126,7 @@ tag-directive-lexed : (start : Mark) (name : List ℕ) (p : Place) → All Lexem
 unfolding tag-directive tag-prefix kind-bytes role
 tag-directive-lexed start name p =
     all-bind _ (handle-pays start (blanks-at p))
-    (λ a h. all-bind _ (all-need _ 18 start _ (uri-run-pays isUri start 0 _ _))
+    (λ a h. all-bind _ (all-need _ 18 start _ (uri-run-pays is-uri start 0 _ _))
     (λ b i. all-need _ 19 start _ (holds (record {
       neutral = refl;
       paid = omega (arith, length-append (encode (a .text)) (encode (b .text)), size-fits (blanks-fit (p .mark) (p .rest)), size-fits (blanks-fit (a .place .mark) (a .place .rest)));
@@ -134,12 +134,12 @@ tag-directive-lexed start name p =
 
 -- a space between parameters was paid by a blank
 parameters-pay : (some blank : Bool) (m : Mark) (cs : List ℕ) → PaysRun (pick blank 1 0) cs (parameters some blank m cs)
-unfolding parameters bytesOf
+unfolding parameters char-bytes
 parameters-pay some blank m [] = omega (arith, size-nil)
 parameters-pay some blank m (c ∷ cs) =
-    by-test (isBlank c)
+    by-test (is-blank c)
     (λ e. rw (e, parameters) (omega (arith, size-cons c cs, width-some c .0, parameters-pay some true (along m) cs)))
-    (λ e. by-test (isNonSpace c)
+    (λ e. by-test (is-non-space c)
     (λ f. rw (e, f, parameters) (let r = parameters true false (along m) cs in
     omega (arith, size-cons c cs, parameters-pay true false (along m) cs, size-append (pick (some && blank) (space ∷ c ∷ []) (c ∷ [])) (r .text), joined some blank)))
     (λ f. rw (e, f, parameters) (omega (arith, size-nil))))
@@ -153,9 +153,9 @@ parameters-pay some blank m (c ∷ cs) =
 directive-of-lexed : (start : Mark) (name : List ℕ) (p : Place) → All Lexeme (Lexed (size name) (p .rest)) (directive-of start name p)
 unfolding directive-of reserved-directive kind-bytes role
 directive-of-lexed start name p =
-    by-test (same name (89 ∷ 65 ∷ 77 ∷ 76 ∷ []))
+    by-test (same name yaml-name)
     (λ e. rw (e, directive-of) (all-weak (λ l h. record { neutral = h .1 .0; paid = omega (arith, size-fits (h .0 .onward), h .1 .1) }) (all-both (version-directive-fit start p) (version-silent start p))))
-    (λ e. by-test (same name (84 ∷ 65 ∷ 71 ∷ []))
+    (λ e. by-test (same name tag-name)
     (λ f. rw (e, f, directive-of) (tag-directive-lexed start name p))
     (λ f. rw (e, f, directive-of) (let r = parameters false false (p .mark) (p .rest) in
     let h : Pays (size name) (p .rest) (length (encode name ++ encode (r .text))) (r .place .rest) =
@@ -165,7 +165,7 @@ directive-of-lexed start name p =
 pub directive-lexed : (p : Place) → All Lexeme (Lexed 0 (p .rest)) (scan-directive p)
 unfolding scan-directive
 directive-lexed p =
-    let h = word-pays isNonSpace (along (p .mark)) (drop 1 (p .rest)) in
+    let h = run-of-pays is-non-space (along (p .mark)) (drop 1 (p .rest)) in
     all-need _ 10 (along (p .mark)) _ (all-need _ 11 (along (p .mark)) _
     (all-bind _ (directive-of-lexed (p .mark) _ _)
     (λ l i. all-bind _ (blanks-and-comment-fit (l .place))

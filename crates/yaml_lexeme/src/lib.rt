@@ -78,3 +78,9 @@ pub struct Token {
     pub start: Mark,
     pub end: Mark,
 }
+
+// What words are: the record of a token, or of none.
+pub enum Recorded {
+    Found(Token),
+    NoToken,
+}

@@ -58,7 +58,7 @@ implicit-open (l ∷ ls) = l .implicit
 unfoldable pub fetch-flow-collection-end : Bool → State → Read News
 fetch-flow-collection-end sequence s₀ = do
   _ ← need (closes-level sequence (s₀ .levels)) 47 (mark-of s₀)
-  s ← remove-key s₀
+  let s = remove-key s₀
   l ← scan-bracket (pick sequence FlowSequenceEnd FlowMappingEnd) (s .place)
   emit (empty-if (implicit-open (s .levels)) FlowMappingEnd (mark-of s) ++ (put (l .token) ∷ []))
       (adjacent-here (at-place (l .place) false (allow false (with-keys (drop 1 (s .keys)) (with-levels (drop 1 (s .levels)) s)))))
@@ -70,7 +70,7 @@ new-entry ls = on-level (λ l. new-level (l .sequence)) ls
 -- K6: ',' in flow removes the candidate and allows one
 unfoldable pub fetch-flow-entry : State → Read News
 fetch-flow-entry s₀ = do
-  s ← remove-key s₀
+  let s = remove-key s₀
   l ← scan-bracket FlowEntry (s .place)
   emit (empty-if (implicit-open (s .levels)) FlowMappingEnd (mark-of s) ++ (put (l .token) ∷ []))
       (at-place (l .place) false (allow true (with-levels (new-entry (s .levels)) s)))

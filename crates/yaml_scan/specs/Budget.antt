@@ -15,9 +15,11 @@ use Rattle.yaml_text.specs.All.{All, holds, not-read}
 use Rattle.yaml_text.specs.DecodeLaws.{Decodes, NoNul, decode-is}
 use Rattle.yaml_text.specs.PlaceLaws.{left}
 use Rattle.yaml_lexeme.specs.Token.{StreamStart, Token, empty-token, texts}
+use Rattle.yaml_lexeme.specs.Record.{record-words}
 use Rattle.yaml_scan.specs.declared.Limits.{Limits}
 use Rattle.yaml_scan.specs.State.{Event, News, State, ends-with, goes-on, put}
-use Rattle.yaml_scan.specs.Scan.{Outcome, Verdict, accepted, after-events, after-step, answer, answer-for, begin, lent, no-verdict, outcome, refusal, run, scan, scanned, settled, spent, stopped}
+use Rattle.yaml_scan.specs.Slots.{tokens-of}
+use Rattle.yaml_scan.specs.Scan.{Outcome, Verdict, accepted, after-events, after-step, answer, answer-for, begin, lent, no-verdict, outcome, refusal, run, scan, scanned, spent, stopped}
 use Rattle.yaml_scan.specs.Candidates.{Given, Placed, Sound, fresh, given, placed-append, ready}
 use Rattle.yaml_scan.specs.Runs.{step-news}
 
@@ -97,17 +99,17 @@ Decided no-verdict = ⊥
 lent-decided : (ts : List Token) (w b : ℕ) → Decided (lent ts w b .verdict)
 unfolding lent
 lent-decided ts w b =
-    by-test (ltb (w / 12) (length ts))
+    by-test (ltb (w / record-words) (length ts))
     (λ e. rw (e, lent) tt)
     (λ e. by-test (ltb b (length (texts ts))) (λ f. rw (e, f, lent) tt) (λ f. rw (e, f, lent) tt))
 
 outcome-decided : (o : Outcome) (w b : ℕ) → Ends o → Decided (answer-for o w b .verdict)
 unfolding answer-for
-outcome-decided (scanned es) w b h = lent-decided (settled 0 es) w b
+outcome-decided (scanned es) w b h = lent-decided (tokens-of es) w b
 outcome-decided (stopped n m) w b h = tt
 outcome-decided spent w b h = h
 
-pub answer-decided : (limits : Limits) (bytes : List ℕ) (wordsRoom bytesRoom : ℕ) → Decided (answer limits bytes wordsRoom bytesRoom .verdict)
+pub answer-decided : (limits : Limits) (bytes : List ℕ) (words-room bytes-room : ℕ) → Decided (answer limits bytes words-room bytes-room .verdict)
 unfolding answer
 answer-decided limits bytes w b = outcome-decided (outcome limits bytes) w b (outcome-ends limits bytes)
 

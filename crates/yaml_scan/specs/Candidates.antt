@@ -15,7 +15,7 @@ use Rattle.yaml_scan.specs.declared.Candidate.{Candidate}
 use Rattle.yaml_scan.specs.declared.Candidate.the-variants.{Absent, Possible}
 use Rattle.yaml_scan.specs.declared.Level.{Level}
 use Rattle.yaml_scan.specs.Keys.{set-key, top-key}
-use Rattle.yaml_scan.specs.State.{Event, State, block-ends, empty-if, in-flow, mark-of, put, put-before, puts, with-keys}
+use Rattle.yaml_scan.specs.State.{Event, State, block-ends, empty-if, in-flow, mark-of, put, put-before, puts}
 
 -- a token that was given: where it starts, and whether tokens were put in before it
 pub record Given : Type 0 where
@@ -82,13 +82,10 @@ abbrev pub Over : Mark → Candidate → Type 0
 Over m Absent = Unit {0}
 Over m (Possible required n k) = k .line < m .line
 
-abbrev pub without-key : State → State
-without-key s = with-keys (set-key Absent (s .keys)) s
-
 -- what holds between two steps: the same; or the candidate is a block scalar's, which may start elsewhere, but whose line is over
 pub data Sound (gs : List Given) (s : State) : Type 0 where
   ready : ReadyState gs s → Sound gs s
-  late : in-flow s ≡ false → Over (mark-of s) (top-key (s .keys)) → ReadyState gs (without-key s) → Sound gs s
+  late : in-flow s ≡ false → Over (mark-of s) (top-key (s .keys)) → Ready gs (s .count) (set-key Absent (s .keys)) (s .levels) (s .place) → Sound gs s
 
 -- laws of what was given
 

@@ -5,11 +5,11 @@ use mathlib.Core.List.{List, [], _∷_}
 use mathlib.Core.Path.{_≡_, sym}
 use lib.Dec.{eqb, ltb}
 use lib.ListN.{length}
-use borrow.Author.Tests.{ne-eqb, not-true}
+use borrow.Author.Tests.{eqb-true, ne-eqb, not-true}
 use Rattle.yaml_text.specs.declared.Mark.{Mark}
 use Rattle.yaml_text.specs.Char.{'!', '%', '&', '*', '-', ':', '>', '?', '[', ']', '`', '|', at-sign, byte-order-mark, close-brace, comma, dot, double-quote, open-brace, single-quote}
-use Rattle.yaml_text.specs.Class.{among, isBlankOrBreakz, isBom, isFlow, isZ, peek}
-use Rattle.yaml_text.specs.Mark.{edge-of, isMarker, look}
+use Rattle.yaml_text.specs.Class.{among, is-blank-or-breakz, is-bom, is-flow, is-z, peek}
+use Rattle.yaml_text.specs.Mark.{edge-of, is-marker, look}
 use Rattle.yaml_text.specs.Test.{both-true, on-pick, true-false}
 use Rattle.yaml_text.specs.All.{All, not-read}
 use Rattle.yaml_text.specs.PlaceLaws.{left, there}
@@ -19,23 +19,24 @@ use Rattle.yaml_scan.specs.Keys.{top-key}
 use Rattle.yaml_scan.specs.declared.Limits.{Limits}
 use Rattle.yaml_scan.specs.State.{News, State, in-flow, mark-of, rest-of}
 use Rattle.yaml_scan.specs.Value.{takes-colon}
-use Rattle.yaml_scan.specs.Choice.{choice, fetch, indicator}
+use Rattle.yaml_scan.specs.Choice.{choice, indicator}
+use Rattle.yaml_scan.specs.Fetch.{fetch}
 use Rattle.yaml_scan.specs.Candidates.{Given, top-tops}
 use Rattle.yaml_scan.specs.Fetches.{Fetched, anchor-news, block-entry-news, block-scalar-news, byte-order-mark-news, directive-news, document-indicator-news, flow-collection-end-news, flow-collection-start-news, flow-entry-news, flow-scalar-news, key-news, plain-scalar-news, stream-end-news, tag-news, value-by-news}
 
 -- what the fetch of a choice needs to know of the state
 abbrev pub Says : Choice → State → Type 0
 Says AtEnd s = Unit {0}
-Says AtDirective s = in-flow s ≡ false
-Says AtByteOrderMark s = in-flow s ≡ false
+Says AtDirective s = (in-flow s ≡ false) × (mark-of s .col ≡ 0)
+Says AtByteOrderMark s = (in-flow s ≡ false) × (mark-of s .col ≡ 0)
 Says BelowIndent s = Unit {0}
 Says Stray s = Unit {0}
-Says (AtMarker begins) s = 3 ≤ left (s .place)
+Says (AtMarker begins) s = (3 ≤ left (s .place)) × (mark-of s .col ≡ 0)
 Says (Opens sequence) s = Unit {0}
 Says (Closes sequence) s = Unit {0}
-Says AtComma s = Unit {0}
-Says AtDash s = isBlankOrBreakz (peek (rest-of s) 1) ≡ true
-Says AtQuestion s = isBlankOrBreakz (peek (rest-of s) 1) ≡ true
+Says AtComma s = in-flow s ≡ true
+Says AtDash s = is-blank-or-breakz (peek (rest-of s) 1) ≡ true
+Says AtQuestion s = is-blank-or-breakz (peek (rest-of s) 1) ≡ true
 Says AtColon s = takes-colon s ≡ true
 Says AtTag s = Unit {0}
 Says AtPlain s = Unit {0}
@@ -43,14 +44,15 @@ Says (AtAnchor alias) s = Unit {0}
 Says (AtBlock literal) s = in-flow s ≡ false
 Says (AtQuoted single) s = Unit {0}
 
-marker-there : (m : Mark) (cs : List ℕ) → isMarker m cs ≡ true → 3 ≤ length cs
-unfolding isMarker
+marker-there : (m : Mark) (cs : List ℕ) → is-marker m cs ≡ true → (3 ≤ length cs) × (m .col ≡ 0)
+unfolding is-marker
 marker-there m cs e =
     let c = peek cs 0 in
     let f = both-true (eqb (m .col) 0 && (eqb c '-' || eqb c dot) && eqb (peek cs 1) c && eqb (peek cs 2) c) _ e .0 in
     let g = both-true (eqb (m .col) 0 && (eqb c '-' || eqb c dot) && eqb (peek cs 1) c) _ f in
-    let h = both-true (eqb (m .col) 0) _ (both-true (eqb (m .col) 0 && (eqb c '-' || eqb c dot)) _ (g .0) .0) .1 in
-    there (λ d. eqb d c) cs 2 (ne-eqb 0 c (λ z. true-false (sym (rw (← z) at h)))) (g .1)
+    let h = both-true (eqb (m .col) 0) _ (both-true (eqb (m .col) 0 && (eqb c '-' || eqb c dot)) _ (g .0) .0) in
+    let dots = h .1 in
+    (there (λ d. eqb d c) cs 2 (ne-eqb 0 c (λ z. true-false (sym (rw (← z) at dots)))) (g .1), eqb-true (m .col) 0 (h .0))
 
 indicator-says : (s : State) (c : ℕ) → Says (indicator (in-flow s) (takes-colon s) c (peek (rest-of s) 1)) s
 unfolding indicator
@@ -60,10 +62,10 @@ indicator-says s c =
     on-pick P (eqb c open-brace) (λ _. tt) λ _.
     on-pick P (eqb c ']') (λ _. tt) λ _.
     on-pick P (eqb c close-brace) (λ _. tt) λ _.
-    on-pick P (eqb c comma) (λ _. on-pick P (in-flow s) (λ _. tt) λ _. tt) λ _.
-    on-pick P (eqb c '-' && isBlankOrBreakz n) (λ e. both-true (eqb c '-') _ e .1) λ _.
-    on-pick P (eqb c '?' && isBlankOrBreakz n) (λ e. both-true (eqb c '?') _ e .1) λ _.
-    on-pick P ((eqb c '-' || eqb c '?') && in-flow s && isFlow n) (λ _. tt) λ _.
+    on-pick P (eqb c comma) (λ _. on-pick P (in-flow s) (λ e. e) λ _. tt) λ _.
+    on-pick P (eqb c '-' && is-blank-or-breakz n) (λ e. both-true (eqb c '-') _ e .1) λ _.
+    on-pick P (eqb c '?' && is-blank-or-breakz n) (λ e. both-true (eqb c '?') _ e .1) λ _.
+    on-pick P ((eqb c '-' || eqb c '?') && in-flow s && is-flow n) (λ _. tt) λ _.
     on-pick P (eqb c ':' && takes-colon s) (λ e. both-true (eqb c ':') _ e .1) λ _.
     on-pick P (eqb c '*') (λ _. tt) λ _.
     on-pick P (eqb c '&') (λ _. tt) λ _.
@@ -82,18 +84,20 @@ unfolding choice
 choice-says s =
     let c = look (s .place) in
     let outside = eqb (mark-of s .col) 0 && not (in-flow s) in
-    on-pick P (isZ c) (λ _. tt) λ _.
-    on-pick P (isMarker (mark-of s) (rest-of s)) (λ e. marker-there (mark-of s) (rest-of s) e) λ _.
-    on-pick P (outside && eqb c '%') (λ e. not-inside (both-true outside _ e .0)) λ _.
-    on-pick P (outside && isBom c) (λ e. not-inside (both-true outside _ e .0)) λ _.
+    on-pick P (is-z c) (λ _. tt) λ _.
+    on-pick P (is-marker (mark-of s) (rest-of s)) (marker-there (mark-of s) (rest-of s)) λ _.
+    on-pick P (outside && eqb c '%') (λ e. at-edge (both-true outside _ e .0)) λ _.
+    on-pick P (outside && is-bom c) (λ e. at-edge (both-true outside _ e .0)) λ _.
     on-pick P (ltb (edge-of (mark-of s)) (s .indents .indent)) (λ _. tt) λ _.
     indicator-says s c
   where
     P : Choice → Type 0
     P k = Says k s
 
-    not-inside : (eqb (mark-of s .col) 0 && not (in-flow s)) ≡ true → in-flow s ≡ false
-    not-inside e = not-true (in-flow s) (both-true (eqb (mark-of s .col) 0) _ e .1)
+    at-edge : (eqb (mark-of s .col) 0 && not (in-flow s)) ≡ true → (in-flow s ≡ false) × (mark-of s .col ≡ 0)
+    at-edge e =
+        let k = both-true (eqb (mark-of s .col) 0) _ e in
+        (not-true (in-flow s) (k .1), eqb-true (mark-of s .col) 0 (k .0))
 
 pub fetch-news : (gs : List Given) (limits : Limits) (c : Choice) (s : State) → Says c s → All News (Fetched gs s) (fetch limits c s)
 unfolding fetch
@@ -102,7 +106,7 @@ fetch-news gs limits AtDirective s h = directive-news gs s
 fetch-news gs limits AtByteOrderMark s h = byte-order-mark-news gs s
 fetch-news gs limits BelowIndent s h = not-read
 fetch-news gs limits Stray s h = not-read
-fetch-news gs limits (AtMarker begins) s h = document-indicator-news gs begins s h
+fetch-news gs limits (AtMarker begins) s h = document-indicator-news gs begins s (h .0)
 fetch-news gs limits (Opens sequence) s h = flow-collection-start-news gs limits sequence s
 fetch-news gs limits (Closes sequence) s h = flow-collection-end-news gs sequence s
 fetch-news gs limits AtComma s h = flow-entry-news gs s

@@ -1,11 +1,12 @@
 -- P1 to P12 of 01, as one table, computed.
-use Prim.Native.Nat.{ℕ}
+use Prim.Native.Nat.{_*_, _-_, ℕ}
 use mathlib.Core.List.{List, [], _++_, _∷_}
 use mathlib.Core.Path.{_≡_, refl}
 use lib.ListN.{replicate}
 use Rattle.yaml_text.specs.declared.Mark.{Mark}
 use Rattle.yaml_text.specs.Char.{'[', ']'}
 use Rattle.yaml_text.specs.Mark.{origin}
+use Rattle.yaml_lexeme.specs.Record.{record-words}
 use Rattle.yaml_scan.specs.Scan.{Answer, accepted, answer, blank-answer, filled, refusal, standard}
 use Rattle.yaml_scan.specs.Open.{all-open}
 
@@ -60,25 +61,29 @@ P12 = 0xC0 ∷ 0x80 ∷ []
 abbrev at-line-one : ℕ → Mark
 at-line-one i = record { index = i; line = 1; col = i }
 
+-- room for 12 records
+abbrev pub twelve-records : ℕ
+twelve-records = 12 * record-words
+
 -- a refusal by the number n at the index i of line 1: both rooms zero, T = D = 0
 abbrev refuses : ℕ → ℕ → Answer
-refuses n i = blank-answer (refusal n (at-line-one i) 0 0) 144 16
+refuses n i = blank-answer (refusal n (at-line-one i) 0 0) twelve-records 16
 
 -- the definition's answers, in rooms of 12 records and 16 bytes
 abbrev defined : List ℕ → Answer
-defined bytes = answer standard bytes 144 16
+defined bytes = answer standard bytes twelve-records 16
 
 -- P1 to P12, of what is answered in such rooms
 unfoldable pub Examples : (List ℕ → Answer) → Type 0
 Examples answers =
     (answers P1 ≡ record {
       verdict = accepted 2 0;
-      words = filled 144 (1 ∷ 0 ∷ 1 ∷ 0 ∷ 0 ∷ 1 ∷ 0 ∷ 0 ∷ 0 ∷ 0 ∷ 0 ∷ 0 ∷ 2 ∷ 0 ∷ 1 ∷ 0 ∷ 0 ∷ 1 ∷ 0 ∷ 0 ∷ 0 ∷ 0 ∷ 0 ∷ 0 ∷ []);
+      words = filled twelve-records (1 ∷ 0 ∷ 1 ∷ 0 ∷ 0 ∷ 1 ∷ 0 ∷ 0 ∷ 0 ∷ 0 ∷ 0 ∷ 0 ∷ 2 ∷ 0 ∷ 1 ∷ 0 ∷ 0 ∷ 1 ∷ 0 ∷ 0 ∷ 0 ∷ 0 ∷ 0 ∷ 0 ∷ []);
       bytes = replicate 16 0;
     })
     × (answers P2 ≡ record {
       verdict = accepted 6 1;
-      words = filled 144
+      words = filled twelve-records
           (1 ∷ 0 ∷ 1 ∷ 0 ∷ 0 ∷ 1 ∷ 0 ∷ 0 ∷ 0 ∷ 0 ∷ 0 ∷ 0
           ∷ 8 ∷ 0 ∷ 1 ∷ 0 ∷ 0 ∷ 1 ∷ 0 ∷ 0 ∷ 0 ∷ 0 ∷ 0 ∷ 0
           ∷ 15 ∷ 0 ∷ 1 ∷ 0 ∷ 1 ∷ 1 ∷ 1 ∷ 0 ∷ 0 ∷ 0 ∷ 0 ∷ 0
@@ -91,7 +96,7 @@ Examples answers =
     × (answers P4 .verdict ≡ accepted 7 0)
     × (answers P5 ≡ record {
       verdict = accepted 3 3;
-      words = filled 144
+      words = filled twelve-records
           (1 ∷ 0 ∷ 1 ∷ 0 ∷ 0 ∷ 1 ∷ 0 ∷ 0 ∷ 0 ∷ 0 ∷ 0 ∷ 0
           ∷ 22 ∷ 0 ∷ 1 ∷ 0 ∷ 4 ∷ 1 ∷ 4 ∷ 0 ∷ 3 ∷ 0 ∷ 0 ∷ 3
           ∷ 2 ∷ 4 ∷ 2 ∷ 0 ∷ 4 ∷ 2 ∷ 0 ∷ 0 ∷ 0 ∷ 0 ∷ 0 ∷ 0 ∷ []);
@@ -116,13 +121,13 @@ long-version = 37 ∷ 89 ∷ 65 ∷ 77 ∷ 76 ∷ 32 ∷ 57 ∷ 57 ∷ 57 ∷ 57
 -- the other runs of 01, and the refusals that no short text meets: 1, 4, 5 (4 before 5), 28
 pub Edges : Type 0
 Edges =
-    (answer (record { bytes = 2; levels = 255; entries = 255 }) P2 144 16 ≡ refuses 1 0)
-    × (answer standard P2 71 16 ≡ blank-answer (refusal 4 origin 6 1) 71 16)
-    × (answer standard P5 144 2 ≡ blank-answer (refusal 5 origin 3 3) 144 2)
-    × (answer standard P2 71 0 ≡ blank-answer (refusal 4 origin 6 1) 71 0)
-    × (answer standard (replicate 255 '[' ++ replicate 255 ']') 6144 0 .verdict ≡ accepted 512 0)
-    × (answer standard (replicate 256 '[') 24 0 ≡ blank-answer (refusal 28 (at-line-one 255) 0 0) 24 0)
-    × (answer standard long-version 36 0 .verdict ≡ accepted 3 0)
+    (answer (record { bytes = 2; levels = 255; entries = 255 }) P2 twelve-records 16 ≡ refuses 1 0)
+    × (answer standard P2 (6 * record-words - 1) 16 ≡ blank-answer (refusal 4 origin 6 1) (6 * record-words - 1) 16)
+    × (answer standard P5 twelve-records 2 ≡ blank-answer (refusal 5 origin 3 3) twelve-records 2)
+    × (answer standard P2 (6 * record-words - 1) 0 ≡ blank-answer (refusal 4 origin 6 1) (6 * record-words - 1) 0)
+    × (answer standard (replicate 255 '[' ++ replicate 255 ']') (512 * record-words) 0 .verdict ≡ accepted 512 0)
+    × (answer standard (replicate 256 '[') (2 * record-words) 0 ≡ blank-answer (refusal 28 (at-line-one 255) 0 0) (2 * record-words) 0)
+    × (answer standard long-version (3 * record-words) 0 .verdict ≡ accepted 3 0)
 
 pub edges : Edges
 unfolding Edges all-open
@@ -150,3 +155,19 @@ Slips =
 pub slips : Slips
 unfolding Slips all-open
 slips = (refl, refl, refl)
+
+-- P3 whole: BlockMappingStart and Key go in before `a`, which was given before the ':' came
+pub put-in : defined P3 ≡ record {
+  verdict = accepted 7 1;
+  words = filled 144
+      (1 ∷ 0 ∷ 1 ∷ 0 ∷ 0 ∷ 1 ∷ 0 ∷ 0 ∷ 0 ∷ 0 ∷ 0 ∷ 0
+      ∷ 9 ∷ 0 ∷ 1 ∷ 0 ∷ 0 ∷ 1 ∷ 0 ∷ 0 ∷ 0 ∷ 0 ∷ 0 ∷ 0
+      ∷ 17 ∷ 0 ∷ 1 ∷ 0 ∷ 0 ∷ 1 ∷ 0 ∷ 0 ∷ 0 ∷ 0 ∷ 0 ∷ 0
+      ∷ 22 ∷ 0 ∷ 1 ∷ 0 ∷ 1 ∷ 1 ∷ 1 ∷ 0 ∷ 1 ∷ 0 ∷ 0 ∷ 1
+      ∷ 18 ∷ 1 ∷ 1 ∷ 1 ∷ 2 ∷ 1 ∷ 2 ∷ 0 ∷ 0 ∷ 0 ∷ 0 ∷ 0
+      ∷ 10 ∷ 2 ∷ 2 ∷ 0 ∷ 2 ∷ 2 ∷ 0 ∷ 0 ∷ 0 ∷ 0 ∷ 0 ∷ 0
+      ∷ 2 ∷ 2 ∷ 2 ∷ 0 ∷ 2 ∷ 2 ∷ 0 ∷ 0 ∷ 0 ∷ 0 ∷ 0 ∷ 0 ∷ []);
+  bytes = filled 16 (97 ∷ []);
+}
+unfolding all-open
+put-in = refl

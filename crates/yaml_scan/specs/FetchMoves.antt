@@ -9,11 +9,11 @@ use lib.ListN.{drop, length}
 use lib.Seq.{getD-drop}
 use Rattle.yaml_text.specs.declared.Mark.{Mark}
 use Rattle.yaml_text.specs.Pick.{pick}
-use Rattle.yaml_text.specs.Class.{isBlankOrBreakz, peek}
+use Rattle.yaml_text.specs.Class.{is-blank-or-breakz, peek}
 use Rattle.yaml_text.specs.Mark.{Place, edge-of, look, skip-by}
 use Rattle.yaml_text.specs.Refusal.{got}
 use Rattle.yaml_text.specs.Test.{both-true, by-pick, true-false}
-use Rattle.yaml_text.specs.All.{All, all-any, all-bind, all-is, all-need, all-test, holds, not-read}
+use Rattle.yaml_text.specs.All.{All, all-bind, all-need, all-test, holds, not-read}
 use Rattle.yaml_text.specs.PlaceLaws.{Fits, left}
 use Rattle.yaml_lexeme.specs.Token.{BlockEntry, ByteOrderMark, DocumentEnd, DocumentStart, FlowEntry, FlowMappingEnd, FlowMappingStart, FlowSequenceEnd, FlowSequenceStart, Key, Kind, Lexeme, StreamEnd, Token, Value, empty-token, kind-bytes, size}
 use Rattle.yaml_lexeme.specs.Fits.{blanks-and-comment-fit}
@@ -28,14 +28,15 @@ use Rattle.yaml_scan.specs.declared.Level.{Level}
 use Rattle.yaml_scan.specs.declared.Limits.{Limits}
 use Rattle.yaml_scan.specs.Indent.{drop-non-ending}
 use Rattle.yaml_scan.specs.IndentLaws.{drop-non-ending-same, roll-at-rolls, same-refl}
-use Rattle.yaml_scan.specs.State.{Event, News, State, block-ends, ends-with, goes-on, in-flow, mark-of, on-level, put, puts, rest-of, save-key, unroll-to, with-indents, with-keys}
-use Rattle.yaml_scan.specs.Keys.{remove, top-key}
+use Rattle.yaml_scan.specs.State.{Event, News, State, block-ends, ends-with, goes-on, in-flow, mark-of, on-level, put, puts, remove-key, rest-of, save-key, unroll-to, with-keys}
+use Rattle.yaml_scan.specs.Keys.{top-key}
 use Rattle.yaml_scan.specs.Bracket.{fetch-flow-collection-end, fetch-flow-collection-start, fetch-flow-entry, scan-bracket}
 use Rattle.yaml_scan.specs.Value.{begins-pair, colon-seen, fetch-block-entry, fetch-key, takes-colon, value-by, value-with, value-without}
 use Rattle.yaml_scan.specs.declared.Choice.{Choice}
 use Rattle.yaml_scan.specs.declared.Choice.the-variants.{AtAnchor, AtBlock, AtByteOrderMark, AtColon, AtComma, AtDash, AtDirective, AtEnd, AtMarker, AtPlain, AtQuestion, AtQuoted, AtTag, BelowIndent, Closes, Opens, Stray}
-use Rattle.yaml_scan.specs.Choice.{fetch, fetch-anchor, fetch-block-scalar, fetch-byte-order-mark, fetch-directive, fetch-document-indicator, fetch-flow-scalar, fetch-plain-scalar, fetch-stream-end, fetch-tag, forced}
-use Rattle.yaml_scan.specs.Fetches.{after-marker-fit, leave-blocks-is, remove-key-is, stack-bracket-is}
+use Rattle.yaml_scan.specs.Document.{fetch-byte-order-mark, fetch-directive, fetch-document-indicator, fetch-stream-end, forced, leave-blocks}
+use Rattle.yaml_scan.specs.Fetch.{fetch, fetch-anchor, fetch-block-scalar, fetch-flow-scalar, fetch-plain-scalar, fetch-tag}
+use Rattle.yaml_scan.specs.Fetches.{after-marker-fit, stack-bracket-is}
 use Rattle.yaml_scan.specs.ChoiceLaws.{Says}
 use Rattle.yaml_scan.specs.Moves.{Enters, Move, Moves, Paid, begins, bracket, closes, leaves, opens, parts, tells, uses}
 
@@ -48,7 +49,7 @@ moved {s} {es} {u} t p m c = let k : Moves s (goes-on es u) = (t, p, m, c) in ho
 -- saving a candidate changes nothing else
 save-key-is : (s : State) → save-key s ≡ with-keys (save-key s .keys) s
 unfolding save-key
-save-key-is s = by-pick (λ (u : State). u ≡ with-keys (u .keys) s) (s .allowed) _ _ refl refl
+save-key-is s = by-pick (λ (u : State). u ≡ with-keys (u .keys) s) (s .simple-key-allowed) _ _ refl refl
 
 plain-scalar-moves : (s : State) → 1 ≤ left (s .place) → All News (Moves s) (fetch-plain-scalar s)
 unfolding fetch-plain-scalar
@@ -80,30 +81,29 @@ anchor-moves alias s = all-bind _ (anchor-lexed alias (s .place)) (λ l k. rw (s
 -- outside every block
 
 directive-moves : (s : State) → in-flow s ≡ false → All News (Moves s) (fetch-directive s)
-unfolding fetch-directive
-directive-moves s h =
-    all-is _ (leave-blocks-is s) (all-bind _ (directive-lexed (s .place)) (λ l k. moved _ (k .paid) (leaves (k .neutral) h) refl))
+unfolding fetch-directive leave-blocks remove-key
+directive-moves s h = all-bind _ (directive-lexed (s .place)) (λ l k. moved _ (k .paid) (leaves (k .neutral) h) refl)
 
 -- a kind without texts is paid
 silent : (k : Kind) (cs rest : List ℕ) → kind-bytes k ≡ [] → size rest ≤ size cs → Pays 0 cs (length (kind-bytes k)) rest
 silent k cs rest e h = rw e (omega arith)
 
 byte-order-mark-moves : (s : State) → in-flow s ≡ false → All News (Moves s) (fetch-byte-order-mark s)
-unfolding fetch-byte-order-mark kind-bytes role
-byte-order-mark-moves s h = all-is _ (leave-blocks-is s) (moved _ (silent ByteOrderMark (rest-of s) (drop 1 (rest-of s)) refl (drop-less 1 (rest-of s))) (leaves refl h) refl)
+unfolding fetch-byte-order-mark leave-blocks remove-key kind-bytes role
+byte-order-mark-moves s h = moved _ (silent ByteOrderMark (rest-of s) (drop 1 (rest-of s)) refl (drop-less 1 (rest-of s))) (leaves refl h) refl
 
 document-indicator-moves : (dashes : Bool) (s : State) → All News (Moves s) (fetch-document-indicator dashes s)
-unfolding fetch-document-indicator kind-bytes role
+unfolding fetch-document-indicator leave-blocks remove-key kind-bytes role
 document-indicator-moves dashes s =
-    all-test _ 47 (mark-of s) _ (λ e. all-is _ (leave-blocks-is s) (all-bind _ (after-marker-fit dashes (skip-by 3 (s .place)))
+    all-test _ 47 (mark-of s) _ (λ e. all-bind _ (after-marker-fit dashes (skip-by 3 (s .place)))
     (λ p f. moved _ (silent (pick dashes DocumentStart DocumentEnd) (rest-of s) (p .rest) (by-pick (λ (k : Kind). kind-bytes k ≡ []) dashes _ _ refl refl) (omega (arith, drop-less 3 (rest-of s), size-fits f)))
-    (leaves (by-pick (λ (k : Kind). role k ≡ neither) dashes _ _ refl refl) (not-true (in-flow s) e)) refl)))
+    (leaves (by-pick (λ (k : Kind). role k ≡ neither) dashes _ _ refl refl) (not-true (in-flow s) e)) refl))
 
 pub stream-end-moves : (s : State) → All News (Moves s) (fetch-stream-end s)
 unfolding fetch-stream-end
 stream-end-moves s =
-    all-test _ 47 (mark-of s) _ (λ e. all-bind _ (all-any (remove (forced (mark-of s)) (top-key (s .keys))))
-    (λ _ _. let k : Moves s (ends-with (block-ends (unroll-to 0 s .ended) (forced (mark-of s)) ++ (put (empty-token StreamEnd (forced (mark-of s))) ∷ []))) =
+    all-test _ 47 (mark-of s) _ (λ e. all-need _ 41 (forced (mark-of s)) _
+    (let k : Moves s (ends-with (block-ends (unroll-to 0 s .ended) (forced (mark-of s)) ++ (put (empty-token StreamEnd (forced (mark-of s))) ∷ []))) =
     (forced (mark-of s), not-true (in-flow s) e, refl) in holds k))
 
 -- brackets and ','
@@ -131,23 +131,23 @@ flow-collection-start-moves limits sequence s =
     (opens sequence (ap role (f .0) ∙ bracket-roles sequence .0) (i .1)) refl)))))
 
 flow-collection-end-moves : (sequence : Bool) (s : State) → All News (Moves s) (fetch-flow-collection-end sequence s)
-unfolding fetch-flow-collection-end kind-bytes role
+unfolding fetch-flow-collection-end remove-key kind-bytes role
 flow-collection-end-moves sequence s =
     let k = pick sequence FlowSequenceEnd FlowMappingEnd in
-    all-test _ 47 (mark-of s) _ (λ c. all-is _ (remove-key-is s) (all-bind _ (bracket-is k (s .place))
+    all-test _ 47 (mark-of s) _ (λ c. all-bind _ (bracket-is k (s .place))
     (λ l f. moved _ (bracket-silent s k l (by-pick (λ (k : Kind). kind-bytes k ≡ []) sequence _ _ refl refl) f)
-    (closes sequence (mark-of s) (ap role (f .0) ∙ bracket-roles sequence .1) c) refl)))
+    (closes sequence (mark-of s) (ap role (f .0) ∙ bracket-roles sequence .1) c) refl))
 
 flow-entry-moves : (s : State) → All News (Moves s) (fetch-flow-entry s)
-unfolding fetch-flow-entry kind-bytes role
+unfolding fetch-flow-entry remove-key kind-bytes role
 flow-entry-moves s =
-    all-is _ (remove-key-is s) (all-bind _ (bracket-is FlowEntry (s .place))
-    (λ l f. moved _ (bracket-silent s FlowEntry l refl f) (parts (mark-of s) (ap role (f .0))) refl))
+    all-bind _ (bracket-is FlowEntry (s .place))
+    (λ l f. moved _ (bracket-silent s FlowEntry l refl f) (parts (mark-of s) (ap role (f .0))) refl)
 
 -- '-', '?' and ':'
 
 -- what stands behind the one character
-next-is : (s : State) → isBlankOrBreakz (peek (rest-of s) 1) ≡ true → isBlankOrBreakz (look (skip-by 1 (s .place))) ≡ true
+next-is : (s : State) → is-blank-or-breakz (peek (rest-of s) 1) ≡ true → is-blank-or-breakz (look (skip-by 1 (s .place))) ≡ true
 next-is s e = rw (getD-drop 1 (rest-of s) 0 0) e
 
 one-silent : (k : Kind) (s : State) → kind-bytes k ≡ [] → Pays 0 (rest-of s) (length (kind-bytes k)) (drop 1 (rest-of s))
@@ -173,27 +173,25 @@ enters-none f (l ∷ ls) h =
       },
     )
 
-block-entry-moves : (limits : Limits) (s : State) → isBlankOrBreakz (peek (rest-of s) 1) ≡ true → All News (Moves s) (fetch-block-entry limits s)
-unfolding fetch-block-entry kind-bytes role
+block-entry-moves : (limits : Limits) (s : State) → is-blank-or-breakz (peek (rest-of s) 1) ≡ true → All News (Moves s) (fetch-block-entry limits s)
+unfolding fetch-block-entry remove-key kind-bytes role
 block-entry-moves limits s e =
     all-need _ 46 (mark-of s) _ (all-bind _ (roll-at-rolls (limits .entries) (in-flow s) (mark-of s) (edge-of (mark-of s)) (s .indents))
-    (λ r k. all-is _ (remove-key-is (with-indents (r .indents) s))
-    (moved _ (one-silent BlockEntry s refl)
-    (begins {pair = false} true (mark-of s) refl (record { rolls = k; spaced = λ _. next-is s e; enters = enters-same (s .levels) })) refl)))
+    (λ r k. moved _ (one-silent BlockEntry s refl)
+    (begins {pair = false} true (mark-of s) refl (record { rolls = k; spaced = λ _. next-is s e; enters = enters-same (s .levels) })) refl))
   where
     enters-same : (ls : List Level) → Enters false ls ls
     enters-same [] = (refl, refl)
     enters-same (l ∷ ls) = (l, refl, record { same-kind = refl; implicit-is = or-none (l .implicit); tidy = λ t. t; once = λ _ e'. true-false (sym e') })
 
-key-moves : (limits : Limits) (s : State) → isBlankOrBreakz (peek (rest-of s) 1) ≡ true → All News (Moves s) (fetch-key limits s)
-unfolding fetch-key kind-bytes role
+key-moves : (limits : Limits) (s : State) → is-blank-or-breakz (peek (rest-of s) 1) ≡ true → All News (Moves s) (fetch-key limits s)
+unfolding fetch-key remove-key kind-bytes role
 key-moves limits s e =
     all-need _ 46 (mark-of s) _ (all-bind _ (roll-at-rolls (limits .entries) (in-flow s) (mark-of s) (edge-of (mark-of s)) (s .indents))
-    (λ r k. all-is _ (remove-key-is (with-indents (r .indents) s))
-    (moved _ (one-silent Key s refl)
-    (begins {pair = false} false (mark-of s) refl (record { rolls = k; spaced = λ _. next-is s e; enters = enters-none _ (s .levels) (λ l. (refl, refl, refl)) })) refl)))
+    (λ r k. moved _ (one-silent Key s refl)
+    (begins {pair = false} false (mark-of s) refl (record { rolls = k; spaced = λ _. next-is s e; enters = enters-none _ (s .levels) (λ l. (refl, refl, refl)) })) refl))
 
-colon-spaced : (s : State) → takes-colon s ≡ true → in-flow s ≡ false → isBlankOrBreakz (look (skip-by 1 (s .place))) ≡ true
+colon-spaced : (s : State) → takes-colon s ≡ true → in-flow s ≡ false → is-blank-or-breakz (look (skip-by 1 (s .place))) ≡ true
 unfolding takes-colon
 colon-spaced s e f = next-is s (or-none _ ∙ (rw f at e))
 
@@ -236,8 +234,8 @@ value-moves limits (Possible required n m) s h e = value-with-moves limits requi
 pub fetch-moves : (limits : Limits) (c : Choice) (s : State) → Says c s → 1 ≤ left (s .place) → All News (Moves s) (fetch limits c s)
 unfolding fetch
 fetch-moves limits AtEnd s h i = stream-end-moves s
-fetch-moves limits AtDirective s h i = directive-moves s h
-fetch-moves limits AtByteOrderMark s h i = byte-order-mark-moves s h
+fetch-moves limits AtDirective s h i = directive-moves s (h .0)
+fetch-moves limits AtByteOrderMark s h i = byte-order-mark-moves s (h .0)
 fetch-moves limits BelowIndent s h i = not-read
 fetch-moves limits Stray s h i = not-read
 fetch-moves limits (AtMarker dashes) s h i = document-indicator-moves dashes s

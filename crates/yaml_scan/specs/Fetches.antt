@@ -11,7 +11,7 @@ use Rattle.yaml_text.specs.declared.Mark.{Mark}
 use Rattle.yaml_text.specs.Mark.{Place, here, over-bom, skip-by}
 use Rattle.yaml_text.specs.Refusal.{got}
 use Rattle.yaml_text.specs.Test.{by-pick, by-test, on-pick, true-false}
-use Rattle.yaml_text.specs.All.{All, all-any, all-bind, all-is, all-need, all-test, holds}
+use Rattle.yaml_text.specs.All.{All, all-any, all-bind, all-need, all-test, holds}
 use Rattle.yaml_text.specs.DecodeLaws.{NoNul, no-nul-drop}
 use Rattle.yaml_text.specs.PlaceLaws.{Fits, fits-no-nul, fits-refl, fits-trans, left, skip-on}
 use Rattle.yaml_lexeme.specs.Token.{BlockMappingStart, BlockSequenceStart, FlowMappingEnd, FlowMappingStart, Kind, Lexeme, Token, empty-token}
@@ -23,13 +23,14 @@ use Rattle.yaml_scan.specs.declared.Candidate.the-variants.{Absent, Poss
 use Rattle.yaml_scan.specs.declared.Level.{Level}
 use Rattle.yaml_scan.specs.Indent.{Indents, drop-non-ending, top-ends}
 use Rattle.yaml_scan.specs.IndentLaws.{Same, same-refl, stack-same}
-use Rattle.yaml_scan.specs.Keys.{remove, set-key, top-key}
+use Rattle.yaml_scan.specs.Keys.{set-key, top-key}
 use Rattle.yaml_scan.specs.declared.Limits.{Limits}
 use Rattle.yaml_scan.specs.State.{Event, News, State, allow, at-place, block-ends, counting, empty-if, ends-with, goes-on, in-flow, mark-of, on-level, put, put-before, puts, remove-key, save-key, unroll-to, with-indents}
 use Rattle.yaml_scan.specs.Bracket.{closes-level, fetch-flow-collection-end, fetch-flow-collection-start, fetch-flow-entry, implicit-open, scan-bracket, stack-bracket}
 use Rattle.yaml_scan.specs.Value.{before-key, begins-pair, fetch-block-entry, fetch-key, roll-state, value-by, value-with, value-without}
-use Rattle.yaml_scan.specs.Choice.{after-marker, fetch-anchor, fetch-block-scalar, fetch-byte-order-mark, fetch-directive, fetch-document-indicator, fetch-flow-scalar, fetch-plain-scalar, fetch-stream-end, fetch-tag, forced, leave-blocks}
-use Rattle.yaml_scan.specs.Candidates.{AllKnown, EmptyAt, Fall, Free, Given, OnlyPuts, Placed, Ready, ReadyState, Sound, Tops, fall-less, fresh, given, given-length, known-more, known-next, late, note-at, noted-known, only-append, only-ends, only-if, only-one, only-placed, ready, stays-known, without-key, without-ready}
+use Rattle.yaml_scan.specs.Document.{after-marker, fetch-byte-order-mark, fetch-directive, fetch-document-indicator, fetch-stream-end, forced, leave-blocks}
+use Rattle.yaml_scan.specs.Fetch.{fetch-anchor, fetch-block-scalar, fetch-flow-scalar, fetch-plain-scalar, fetch-tag}
+use Rattle.yaml_scan.specs.Candidates.{AllKnown, EmptyAt, Fall, Free, Given, OnlyPuts, Placed, Ready, ReadyState, Sound, Tops, fall-less, fresh, given, given-length, known-more, known-next, late, note-at, noted-known, only-append, only-ends, only-if, only-one, only-placed, ready, stays-known, without-ready}
 
 -- behind the first character, at no later column
 abbrev pub behind-first : Place → Place
@@ -93,7 +94,7 @@ saved : {gs : List Given} (s : State) (t : Token) → t .start ≡ mark-of s →
     → Told gs (put t ∷ []) (save-key s .count + puts (put t ∷ [])) (save-key s .keys) (save-key s .levels)
 unfolding save-key given puts
 saved {gs} s t e r =
-    on-pick (λ (u : State). Told gs (put t ∷ []) (u .count + puts (put t ∷ [])) (u .keys) (u .levels)) (s .allowed)
+    on-pick (λ (u : State). Told gs (put t ∷ []) (u .count + puts (put t ∷ [])) (u .keys) (u .levels)) (s .simple-key-allowed)
     (λ _. let w = without-ready r in
     let k = kept (put t ∷ []) (only-one t) w in
     record {
@@ -121,19 +122,6 @@ used {gs} {b} {ks} n m ts t r f e =
 
 -- the small changes of the state
 
-pub removed : (m : Mark) (k : Candidate) → All Candidate (λ c. c ≡ Absent) (remove m k)
-unfolding remove
-removed m Absent = holds refl
-removed m (Possible required n k) = all-need _ 41 m _ (holds refl)
-
-pub remove-key-is : (s : State) → All State (λ t. t ≡ without-key s) (remove-key s)
-unfolding remove-key
-remove-key-is s = all-bind _ (removed (mark-of s) (top-key (s .keys))) (λ k e. holds (rw e))
-
-pub leave-blocks-is : (s : State) → All State (λ t. t ≡ without-key (with-indents (unroll-to 0 s .indents) s)) (leave-blocks s)
-unfolding leave-blocks
-leave-blocks-is s = remove-key-is (with-indents (unroll-to 0 s .indents) s)
-
 pub stack-bracket-is : (limits : Limits) (s : State) → All State (λ t. (i : Indents) × Same (s .indents) i × (t ≡ with-indents i s)) (stack-bracket limits s)
 unfolding stack-bracket
 stack-bracket-is limits s =
@@ -141,9 +129,9 @@ stack-bracket-is limits s =
     (λ e. rw (e, stack-bracket) (all-bind _ (stack-same (limits .entries) (mark-of s) (s .indents)) (λ i k. holds (i, k, refl))))
     (λ e. rw (e, stack-bracket) (holds (s .indents, same-refl _, refl)))
 
-save-key-place : (s : State) → save-key s .place ≡ s .place
+pub save-key-place : (s : State) → save-key s .place ≡ s .place
 unfolding save-key
-save-key-place s = by-pick (λ (t : State). t .place ≡ s .place) (s .allowed) _ s refl refl
+save-key-place s = by-pick (λ (t : State). t .place ≡ s .place) (s .simple-key-allowed) _ s refl refl
 
 -- brackets
 
@@ -169,9 +157,9 @@ only-two : (b : Bool) (k : Kind) (m : Mark) (t : Token) → OnlyPuts (empty-if b
 only-two b k m t = only-append (empty-if b k m) (put t ∷ []) (only-if b k m) (only-one t)
 
 pub flow-collection-end-news : (gs : List Given) (sequence : Bool) (s : State) → All News (Fetched gs s) (fetch-flow-collection-end sequence s)
-unfolding fetch-flow-collection-end
+unfolding fetch-flow-collection-end remove-key
 flow-collection-end-news gs sequence s =
-    all-test _ 47 (mark-of s) _ (λ c. all-is _ (remove-key-is s) (all-bind _ (bracket-fit _ (s .place))
+    all-test _ 47 (mark-of s) _ (λ c. all-bind _ (bracket-fit _ (s .place))
     (λ l r. said (r .onward) (λ h.
     let i = closes-some sequence (s .levels) c in
     let k = kept _ (only-two (implicit-open (s .levels)) FlowMappingEnd (mark-of s) (l .token)) (without-ready h) in
@@ -181,31 +169,29 @@ flow-collection-end-news gs sequence s =
       levelled = omega (arith, length-drop 1 (s .keys), length-drop 1 (s .levels));
       known = k .known .1;
       ordered = k .ordered;
-    }))))
+    })))
 
 pub flow-entry-news : (gs : List Given) (s : State) → All News (Fetched gs s) (fetch-flow-entry s)
-unfolding fetch-flow-entry
+unfolding fetch-flow-entry remove-key
 flow-entry-news gs s =
-    all-is _ (remove-key-is s) (all-bind _ (bracket-fit _ (s .place))
+    all-bind _ (bracket-fit _ (s .place))
     (λ l r. said (r .onward) (λ h. relevelled _
-    (kept _ (only-two (implicit-open (s .levels)) FlowMappingEnd (mark-of s) (l .token)) (without-ready h)))))
+    (kept _ (only-two (implicit-open (s .levels)) FlowMappingEnd (mark-of s) (l .token)) (without-ready h))))
 
 -- '-', '?' and ':'
 
 pub block-entry-news : (gs : List Given) (limits : Limits) (s : State) → All News (Fetched gs s) (fetch-block-entry limits s)
-unfolding fetch-block-entry
+unfolding fetch-block-entry remove-key
 block-entry-news gs limits s =
     all-need _ 46 (mark-of s) _ (all-bind _ (all-any (roll-state limits (mark-of s) s))
-    (λ r _. all-is _ (remove-key-is (with-indents (r .indents) s))
-    (said (fits-refl _) (λ h. kept _ (only-two (r .starts) BlockSequenceStart (mark-of s) _) (without-ready h)))))
+    (λ r _. said (fits-refl _) (λ h. kept _ (only-two (r .starts) BlockSequenceStart (mark-of s) _) (without-ready h))))
 
 pub key-news : (gs : List Given) (limits : Limits) (s : State) → All News (Fetched gs s) (fetch-key limits s)
-unfolding fetch-key
+unfolding fetch-key remove-key
 key-news gs limits s =
     all-need _ 46 (mark-of s) _ (all-bind _ (all-any (roll-state limits (mark-of s) s))
-    (λ r _. all-is _ (remove-key-is (with-indents (r .indents) s))
-    (said (fits-refl _) (λ h. relevelled _
-    (kept _ (only-two (r .starts) BlockMappingStart (mark-of s) _) (without-ready h))))))
+    (λ r _. said (fits-refl _) (λ h. relevelled _
+    (kept _ (only-two (r .starts) BlockMappingStart (mark-of s) _) (without-ready h)))))
 
 all-empty : (m : Mark) (kinds : List Kind) → EmptyAt m (map (λ (kind : Kind). empty-token kind m) kinds)
 all-empty m [] = tt
@@ -265,7 +251,7 @@ unfolding save-key in-flow top-key
 block-sound s l i e f (inl o) r = ready (told-ready (s .place) f (r .no-nul) (saved s (l .token) o r))
 block-sound {gs} s l i e f (inr o) r =
     let es = put (l .token) ∷ [] in
-    on-pick (λ (t : State). Sound (given gs es) (behind-block l i t)) (s .allowed)
+    on-pick (λ (t : State). Sound (given gs es) (behind-block l i t)) (s .simple-key-allowed)
     (λ _. late e o (told-ready (s .place) f (r .no-nul) (kept es (only-one _) (without-ready r))))
     (λ _. ready (told-ready (s .place) f (r .no-nul) (kept es (only-one _) r)))
 
@@ -284,16 +270,15 @@ only-last : (n : ℕ) (m : Mark) (t : Token) → OnlyPuts (block-ends n m ++ (pu
 only-last n m t = only-append (block-ends n m) (put t ∷ []) (only-ends n m) (only-one t)
 
 pub directive-news : (gs : List Given) (s : State) → All News (Fetched gs s) (fetch-directive s)
-unfolding fetch-directive
+unfolding fetch-directive leave-blocks remove-key
 directive-news gs s =
-    all-is _ (leave-blocks-is s) (all-bind _ (directive-fit (s .place))
-    (λ l r. said (r .onward) (λ h. kept _ (only-last (unroll-to 0 s .ended) (mark-of s) (l .token)) (without-ready h))))
+    all-bind _ (directive-fit (s .place))
+    (λ l r. said (r .onward) (λ h. kept _ (only-last (unroll-to 0 s .ended) (mark-of s) (l .token)) (without-ready h)))
 
 pub byte-order-mark-news : (gs : List Given) (s : State) → All News (Fetched gs s) (fetch-byte-order-mark s)
-unfolding fetch-byte-order-mark
+unfolding fetch-byte-order-mark leave-blocks remove-key
 byte-order-mark-news gs s =
-    all-is _ (leave-blocks-is s)
-    (said-behind (fits-refl _) (λ h. kept _ (only-last (unroll-to 0 s .ended) (mark-of s) _) (without-ready h)))
+    said-behind (fits-refl _) (λ h. kept _ (only-last (unroll-to 0 s .ended) (mark-of s) _) (without-ready h))
 
 pub after-marker-fit : (starts : Bool) (p : Place) → All Place (Fits p) (after-marker starts p)
 unfolding after-marker
@@ -301,14 +286,14 @@ after-marker-fit true p = holds (fits-refl p)
 after-marker-fit false p = all-bind _ (blanks-and-comment-fit p) (λ e f. all-need _ 49 (e .mark) _ (holds f))
 
 pub document-indicator-news : (gs : List Given) (begins : Bool) (s : State) → 3 ≤ left (s .place) → All News (Fetched gs s) (fetch-document-indicator begins s)
-unfolding fetch-document-indicator
+unfolding fetch-document-indicator leave-blocks remove-key
 document-indicator-news gs begins s i =
-    all-need _ 47 (mark-of s) _ (all-is _ (leave-blocks-is s) (all-bind _ (after-marker-fit begins (skip-by 3 (s .place)))
-    (λ p f. said (fits-trans (skip-on 1 2 (s .place) i) f) (λ h. kept _ (only-last (unroll-to 0 s .ended) (mark-of s) _) (without-ready h)))))
+    all-need _ 47 (mark-of s) _ (all-bind _ (after-marker-fit begins (skip-by 3 (s .place)))
+    (λ p f. said (fits-trans (skip-on 1 2 (s .place) i) f) (λ h. kept _ (only-last (unroll-to 0 s .ended) (mark-of s) _) (without-ready h))))
 
 -- the end is the end of the run
 pub stream-end-news : {P : News → Type 0} (gs : List Given) (s : State) → ((es : List Event) → (ReadyState gs s → Placed gs es) → P (ends-with es)) → All News P (fetch-stream-end s)
 unfolding fetch-stream-end
 stream-end-news gs s h =
-    all-need _ 47 (mark-of s) _ (all-bind _ (all-any (remove (forced (mark-of s)) (top-key (s .keys))))
-    (λ _ _. holds (h _ (λ _. only-placed gs _ (only-last (unroll-to 0 s .ended) (forced (mark-of s)) _)))))
+    all-need _ 47 (mark-of s) _ (all-need _ 41 (forced (mark-of s)) _
+    (holds (h _ (λ _. only-placed gs _ (only-last (unroll-to 0 s .ended) (forced (mark-of s)) _)))))

@@ -17,10 +17,9 @@ top-key (k ∷ ks) = k
 abbrev pub set-key : Candidate → List Candidate → List Candidate
 set-key k ks = k ∷ drop 1 ks
 
--- 41: a required key is removed [B11]
-unfoldable pub remove : Mark → Candidate → Read Candidate
-remove m Absent = got Absent
-remove m (Possible required n k) = need (not required) 41 m >>= λ _. got Absent
+unfoldable pub is-required : Candidate → Bool
+is-required Absent = false
+is-required (Possible required n k) = required
 
 -- the line of the candidate's mark k is over at the mark m, or 1,024 characters are [B12]
 unfoldable pub stale : Mark → Mark → Bool
@@ -31,6 +30,6 @@ unfoldable pub lapse : Mark → Candidate → Read Candidate
 lapse m Absent = got Absent
 lapse m (Possible required n k) =
     elim (stale k m) [
-      | true ↦ remove m (Possible required n k)
+      | true ↦ need (not required) 41 m >>= λ _. got Absent
       | false ↦ got (Possible required n k)
     ]

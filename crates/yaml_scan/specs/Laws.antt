@@ -1,42 +1,19 @@
--- Laws of the step, the run and the answer: what goes in before a key; one step; the rooms keep their lengths.
-use Prim.Native.Nat.{_-_, _/_, _≤_, suc, ℕ}
-use mathlib.Core.Bool.{false, true}
-use mathlib.Core.List.{List, [], _∷_}
-use mathlib.Core.Path.{_≡_, refl, sym}
+-- The rooms keep their lengths, whatever the answer.
+use Prim.Native.Nat.{_-_, _/_, _≤_, ℕ}
+use mathlib.Core.List.{List}
+use mathlib.Core.Path.{_≡_}
 use native.Mathlib.Omega.{arith}
 use lib.Dec.{ltb}
 use lib.ListN.{length, length-append, length-replicate, replicate}
 use borrow.Author.Tests.{ltb-false}
-use Rattle.yaml_text.specs.declared.Mark.{Mark}
-use Rattle.yaml_text.specs.Mark.{edge-of, origin}
-use Rattle.yaml_text.specs.Refusal.{got}
-use Rattle.yaml_text.specs.Test.{by-test, true-false}
+use Rattle.yaml_text.specs.Mark.{origin}
+use Rattle.yaml_text.specs.Test.{by-test}
 use Rattle.yaml_lexeme.specs.Token.{Token, texts}
-use Rattle.yaml_lexeme.specs.Held.{records}
-use Rattle.yaml_lexeme.specs.TokenLaws.{records-length}
-use Rattle.yaml_scan.specs.declared.Level.{Level}
-use Rattle.yaml_scan.specs.Indent.{roll-at}
+use Rattle.yaml_lexeme.specs.Record.{record-words, records}
+use Rattle.yaml_lexeme.specs.RecordLaws.{records-length}
 use Rattle.yaml_scan.specs.declared.Limits.{Limits}
-use Rattle.yaml_scan.specs.State.{State, in-flow, mark-of}
-use Rattle.yaml_scan.specs.Value.{begins-pair, roll-state}
-use Rattle.yaml_scan.specs.Scan.{Answer, Outcome, Verdict, after-step, answer, answer-for, blank-answer, filled, lent, no-verdict, outcome, refusal, run, scanned, settled, spent, step, stopped}
-
-pub run-turned : (limits : Limits) (k : ℕ) (s : State) → run limits (suc k) s ≡ after-step (step limits s) (λ s'. run limits k s')
-unfolding run
-run-turned limits k s = refl
-
--- where a pair begins nothing rolls, so at most one start goes in
-pub pair-rolls-none : (limits : Limits) (m : Mark) (s : State) → begins-pair (s .levels) ≡ true
-    → roll-state limits m s ≡ got (record { starts = false; indents = s .indents })
-unfolding roll-at in-flow begins-pair
-pair-rolls-none limits m s e = by-levels (s .levels) e
-  where
-    by-levels : (ls : List Level) → begins-pair ls ≡ true
-        → roll-at (limits .entries) (elim ls [ [] ↦ false | x ∷ xs ↦ true ]) (mark-of s) (edge-of m) (s .indents) ≡ got (record { starts = false; indents = s .indents })
-    by-levels [] f = true-false (sym f)
-    by-levels (l ∷ ls) f = refl
-
--- the rooms keep their lengths, and a record is 12 words
+use Rattle.yaml_scan.specs.Slots.{tokens-of}
+use Rattle.yaml_scan.specs.Scan.{Answer, Outcome, Verdict, answer, answer-for, blank-answer, filled, lent, no-verdict, outcome, refusal, scanned, spent, stopped}
 
 filled-length : (room : ℕ) (l : List ℕ) → length l ≤ room → length (filled room l) ≡ room
 filled-length room l h =
@@ -54,19 +31,19 @@ blank-rooms v w b = record { words-room = length-replicate w 0; bytes-room = len
 lent-rooms : (ts : List Token) (w b : ℕ) → Rooms (lent ts w b) w b
 unfolding lent
 lent-rooms ts w b =
-    by-test (ltb (w / 12) (length ts))
+    by-test (ltb (w / record-words) (length ts))
     (λ e. rw (e, lent) (blank-rooms (refusal 4 origin (length ts) (length (texts ts))) w b))
     (λ e. by-test (ltb b (length (texts ts)))
     (λ f. rw (e, f, lent) (blank-rooms (refusal 5 origin (length ts) (length (texts ts))) w b))
     (λ f. rw (e, f, lent)
-    (let i = ltb-false (w / 12) (length ts) e in
+    (let i = ltb-false (w / record-words) (length ts) e in
     let j = ltb-false b (length (texts ts)) f in
     let k = records-length 0 ts in
     record { words-room = filled-length w (records 0 ts) (omega arith); bytes-room = filled-length b (texts ts) j })))
 
 outcome-rooms : (o : Outcome) (w b : ℕ) → Rooms (answer-for o w b) w b
 unfolding answer-for
-outcome-rooms (scanned es) w b = lent-rooms (settled 0 es) w b
+outcome-rooms (scanned es) w b = lent-rooms (tokens-of es) w b
 outcome-rooms (stopped n m) w b = blank-rooms (refusal n m 0 0) w b
 outcome-rooms spent w b = blank-rooms no-verdict w b
 

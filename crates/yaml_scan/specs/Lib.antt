@@ -3,7 +3,10 @@ pub mod Keys
 pub mod State
 pub mod Bracket
 pub mod Value
+pub mod Document
 pub mod Choice
+pub mod Fetch
+pub mod Slots
 pub mod Scan
 pub mod Open
 pub mod Examples
@@ -12,9 +15,12 @@ pub mod Candidates
 pub mod Fetches
 pub mod ChoiceLaws
 pub mod Runs
+pub mod LinesOver
+pub mod Required
 pub mod Budget
 pub mod Laws
-pub mod Sink
+pub mod SlotLaws
 pub mod Moves
 pub mod FetchMoves
 pub mod Steps
+pub mod Removal

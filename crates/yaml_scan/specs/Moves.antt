@@ -6,7 +6,7 @@ use mathlib.Core.Path.{_≡_}
 use lib.ListN.{drop, length}
 use Rattle.yaml_text.specs.declared.Mark.{Mark}
 use Rattle.yaml_text.specs.Pick.{pick}
-use Rattle.yaml_text.specs.Class.{isBlankOrBreakz}
+use Rattle.yaml_text.specs.Class.{is-blank-or-breakz}
 use Rattle.yaml_text.specs.Mark.{Place, look}
 use Rattle.yaml_lexeme.specs.Token.{BlockMappingStart, BlockSequenceStart, FlowMappingEnd, FlowMappingStart, Key, Kind, StreamEnd, Token, empty-token, token-bytes}
 use Rattle.yaml_lexeme.specs.Role.{Open, ends, flow-mapping, flow-sequence, neither, role, starts}
@@ -20,7 +20,7 @@ use Rattle.yaml_scan.specs.Keys.{set-key, top-key}
 use Rattle.yaml_scan.specs.State.{Event, News, State, block-ends, empty-if, ends-with, goes-on, in-flow, put, put-before, puts, rest-of, save-key, unroll-to}
 use Rattle.yaml_scan.specs.Bracket.{closes-level, implicit-open, new-entry, new-level}
 use Rattle.yaml_scan.specs.Value.{kind-if}
-use Rattle.yaml_scan.specs.Choice.{all-ends}
+use Rattle.yaml_scan.specs.Document.{all-ends}
 
 -- the start that '[' or '{' is
 abbrev pub bracket : Bool → Open
@@ -49,7 +49,7 @@ Enters pair (l ∷ ls) ls' = (l' : Level) × (ls' ≡ l' ∷ ls) × Within pair 
 -- '-', '?' and ':', which at level 0 stand before blank, break or end, and may begin a block
 pub record Begins (s : State) (q : Place) (pair : Bool) (r : Rolled) (ls : List Level) : Type 0 where
   pub rolls : Rolls (in-flow s) (s .indents) r
-  pub spaced : in-flow s ≡ false → isBlankOrBreakz (look q) ≡ true
+  pub spaced : in-flow s ≡ false → is-blank-or-breakz (look q) ≡ true
   pub enters : Enters pair (s .levels) ls
 
 -- K5: an implicit pair ends at ',' or ']'

@@ -9,11 +9,11 @@ use native.Mathlib.Omega.{arith}
 use lib.ListN.{drop, length}
 use borrow.Author.Tests.{lt-ltb}
 use Rattle.yaml_text.specs.declared.Mark.{Mark}
-use Rattle.yaml_text.specs.Class.{isZ, peek}
+use Rattle.yaml_text.specs.Class.{is-z, peek}
 use Rattle.yaml_text.specs.Mark.{Place, look, origin}
 use Rattle.yaml_text.specs.Refusal.{got}
 use Rattle.yaml_text.specs.Test.{by-test, true-false}
-use Rattle.yaml_text.specs.All.{All, all-bind, all-got, all-weak, holds}
+use Rattle.yaml_text.specs.All.{All, all-bind, all-got, all-need, all-weak, holds}
 use Rattle.yaml_text.specs.PlaceLaws.{Fits, fits-left, fits-no-nul, fits-refl, fits-trans, left}
 use Rattle.yaml_lexeme.specs.Fits.{skip-gap-fit}
 use Rattle.yaml_scan.specs.declared.Candidate.{Candidate}
@@ -23,10 +23,11 @@ use Rattle.yaml_scan.specs.Indent.{Indents}
 use Rattle.yaml_scan.specs.Keys.{lapse, set-key, stale, top-key}
 use Rattle.yaml_scan.specs.declared.Limits.{Limits}
 use Rattle.yaml_scan.specs.State.{Event, News, State, allow, at-place, block-ends, counting, ends-with, goes-on, in-flow, lapse-key, mark-of, preceded, puts, rest-of, with-indents}
-use Rattle.yaml_scan.specs.Choice.{choice, fetch, fetch-next}
+use Rattle.yaml_scan.specs.Choice.{choice}
+use Rattle.yaml_scan.specs.Fetch.{fetch, fetch-next}
 use Rattle.yaml_scan.specs.Scan.{begin, step, to-next-token, unrolled}
 use Rattle.yaml_scan.specs.Candidates.{Given, Over, Placed, Ready, ReadyState, Sound, fall-less, fresh, given, given-append, given-length, late, only-ends, only-placed, placed-append, ready, same-ready, stays-known, without-ready}
-use Rattle.yaml_scan.specs.Fetches.{Fetched, behind-first, removed, stream-end-news}
+use Rattle.yaml_scan.specs.Fetches.{Fetched, behind-first, stream-end-news}
 use Rattle.yaml_scan.specs.ChoiceLaws.{choice-says, fetch-news}
 
 -- the gap and the lapse
@@ -34,7 +35,7 @@ use Rattle.yaml_scan.specs.ChoiceLaws.{choice-says, fetch-news}
 move-ready : {gs : List Given} {n : ℕ} {ks : List Candidate} {ls : List Level} {p q : Place} → Fits p q → Ready gs n ks ls p → Ready gs n ks ls q
 move-ready f r = record { counted = r .counted; levelled = r .levelled; known = r .known; ordered = r .ordered; no-nul = fits-no-nul f (r .no-nul) }
 
-still-over : (m m' : Mark) (k : Candidate) → m .line ≤ m' .line → Over m k → Over m' k
+pub still-over : (m m' : Mark) (k : Candidate) → m .line ≤ m' .line → Over m k → Over m' k
 still-over m m' Absent h o = tt
 still-over m m' (Possible required n k) h o = omega arith
 
@@ -50,7 +51,7 @@ unfolding lapse stale
 lapsed m Absent = holds (inl refl)
 lapsed m (Possible required n k) =
     by-test (stale k m)
-    (λ e. rw (e, lapse) (all-weak (λ c f. inl f) (removed m (Possible required n k))))
+    (λ e. rw (e, lapse) (all-need _ 41 m _ (holds (inl refl))))
     (λ e. rw (e, lapse) (holds (inr (refl, λ o. true-false (rw (lt-ltb (k .line) (m .line) o) at e)))))
 
 lapse-key-ready : (gs : List Given) (s : State) → All State (λ t. (t .place ≡ s .place) × (Sound gs s → ReadyState gs t)) (lapse-key s)
@@ -75,7 +76,7 @@ to-next-token-ready : (gs : List Given) (s : State) → All State (λ t. Fits (s
 unfolding to-next-token
 to-next-token-ready gs s =
     all-bind _ (skip-gap-fit _ _ _ (mark-of s) (rest-of s))
-    (λ g f. all-weak (λ t h. (rw (h .0) f, λ k. h .1 (over-gap s (g .place) (g .leads) (g .allowed) f k))) (lapse-key-ready gs _))
+    (λ g f. all-weak (λ t h. (rw (h .0) f, λ k. h .1 (over-gap s (g .place) (g .leading-whitespace) (g .simple-key-allowed) f k))) (lapse-key-ready gs _))
 
 -- one token
 
@@ -94,15 +95,15 @@ takes-first gs s h (goes-on es t) f =
 takes-first gs s h (ends-with es) f = f
 
 -- where it is not the end, a character is there
-pub some-left : (cs : List ℕ) → isZ (peek cs 0) ≡ false → 1 ≤ length cs
-unfolding isZ
+pub some-left : (cs : List ℕ) → is-z (peek cs 0) ≡ false → 1 ≤ length cs
+unfolding is-z
 some-left [] e = true-false e
 some-left (c ∷ cs) e = omega arith
 
 pub next-news : (gs : List Given) (limits : Limits) (s : State) → All News (Next gs s) (fetch-next limits s)
 unfolding choice fetch
 next-news gs limits s =
-    by-test (isZ (look (s .place)))
+    by-test (is-z (look (s .place)))
     (λ e. rw (e, choice) (stream-end-news gs s (λ es k. k)))
     (λ e. all-weak (takes-first gs s (some-left (rest-of s) e)) (fetch-news gs limits (choice s) s (choice-says s)))
 

@@ -2,7 +2,7 @@
 use Prim.Native.Nat.{_-_, _/_, suc, zero, ℕ}
 use mathlib.Core.Bool.{false, true}
 use mathlib.Core.List.{List, [], _++_, _∷_}
-use lib.Dec.{eqb, ltb}
+use lib.Dec.{ltb}
 use lib.ListN.{length, replicate}
 use Rattle.yaml_text.specs.declared.Mark.{Mark}
 use Rattle.yaml_text.specs.Pick.{pick}
@@ -10,20 +10,21 @@ use Rattle.yaml_text.specs.Mark.{edge-of, here, origin}
 use Rattle.yaml_text.specs.Refusal.{Read, _>>=_, got, refused}
 use Rattle.yaml_text.specs.Decode.{decode}
 use Rattle.yaml_lexeme.specs.Token.{StreamStart, Token, empty-token, texts}
-use Rattle.yaml_lexeme.specs.Held.{records}
+use Rattle.yaml_lexeme.specs.Record.{record-words, records}
 use Rattle.yaml_lexeme.specs.declared.Before.the-variants.{AfterText, Leading}
 use Rattle.yaml_lexeme.specs.Gap.{skip-gap}
 use Rattle.yaml_scan.specs.Indent.{Unrolled, indents-of}
 use Rattle.yaml_scan.specs.declared.Candidate.the-variants.{Absent}
 use Rattle.yaml_scan.specs.declared.Limits.{Limits}
-use Rattle.yaml_scan.specs.State.{Event, News, State, allow, at-place, block-ends, counting, ends-with, goes-on, in-flow, lapse-key, mark-of, preceded, put, put-before, rest-of, unroll-to, with-indents}
-use Rattle.yaml_scan.specs.Choice.{fetch-next}
+use Rattle.yaml_scan.specs.State.{Event, News, State, allow, at-place, block-ends, counting, ends-with, goes-on, in-flow, lapse-key, mark-of, preceded, put, rest-of, unroll-to, with-indents}
+use Rattle.yaml_scan.specs.Fetch.{fetch-next}
+use Rattle.yaml_scan.specs.Slots.{tokens-of}
 
 -- K1, K2: the gap, then the lapse [J2]
 unfoldable pub to-next-token : State → Read State
 to-next-token s = do
-  g ← skip-gap (in-flow s) (s .allowed) (pick (s .leads) Leading AfterText) (mark-of s) (rest-of s)
-  lapse-key (at-place (g .place) (g .leads) (allow (g .allowed) s))
+  g ← skip-gap (in-flow s) (s .simple-key-allowed) (pick (s .leading-whitespace) Leading AfterText) (mark-of s) (rest-of s)
+  lapse-key (at-place (g .place) (g .leading-whitespace) (allow (g .simple-key-allowed) s))
 
 -- unroll_indent to the column; in flow nothing ends [A1, J1]
 unfoldable pub unrolled : State → Unrolled
@@ -65,23 +66,11 @@ run limits (suc k) s = after-step (step limits s) (λ s'. run limits k s')
 -- StreamStart was given
 abbrev pub begin : List ℕ → State
 begin cs =
-    record { place = here origin cs; leads = true; allowed = true; indents = indents-of 0 []; keys = Absent ∷ []; levels = []; adjacent = 0; count = 1 }
+    record { place = here origin cs; leading-whitespace = true; simple-key-allowed = true; indents = indents-of 0 []; keys = Absent ∷ []; levels = []; adjacent-value-allowed-at = 0; count = 1 }
 
 -- each step but the last takes a character
 unfoldable pub scan : Limits → List ℕ → Outcome
 scan limits cs = after-events (put (empty-token StreamStart origin) ∷ []) (run limits (suc (length cs)) (begin cs))
-
--- the tokens that go in before token n, after these events: as noted so far, until an event says it. (A candidate is used up once, so at most one does.)
-unfoldable pub noted : ℕ → List Token → List Event → List Token
-noted n ts [] = ts
-noted n ts (put t ∷ es) = noted n ts es
-noted n ts (put-before k now ∷ es) = noted n (pick (eqb n k) now ts) es
-
--- the tokens of a list of events, n tokens having come before
-unfoldable pub settled : ℕ → List Event → List Token
-settled n [] = []
-settled n (put t ∷ es) = noted n [] es ++ (t ∷ settled (suc n) es)
-settled n (put-before k ts ∷ es) = settled n es
 
 -- the answer, with what both rooms hold behind it
 pub data Verdict : Type 0 where
@@ -99,7 +88,7 @@ pub record Answer : Type 0 where
 
 -- both rooms zero
 abbrev pub blank-answer : Verdict → ℕ → ℕ → Answer
-blank-answer v wordsRoom bytesRoom = record { verdict = v; words = replicate wordsRoom 0; bytes = replicate bytesRoom 0 }
+blank-answer v words-room bytes-room = record { verdict = v; words = replicate words-room 0; bytes = replicate bytes-room 0 }
 
 -- as it stands, zeros behind it
 abbrev pub filled : ℕ → List ℕ → List ℕ
@@ -107,21 +96,21 @@ filled room l = l ++ replicate (room - length l) 0
 
 -- 4: T exceeds the whole records that fit; 5: D exceeds the bytes
 unfoldable pub lent : List Token → ℕ → ℕ → Answer
-lent ts wordsRoom bytesRoom =
+lent ts words-room bytes-room =
     let t = length ts in
     let d = length (texts ts) in
-    elim (ltb (wordsRoom / 12) t) [
-      | true ↦ blank-answer (refusal 4 origin t d) wordsRoom bytesRoom
-      | false ↦ elim (ltb bytesRoom d) [
-        | true ↦ blank-answer (refusal 5 origin t d) wordsRoom bytesRoom
-        | false ↦ record { verdict = accepted t d; words = filled wordsRoom (records 0 ts); bytes = filled bytesRoom (texts ts) }
+    elim (ltb (words-room / record-words) t) [
+      | true ↦ blank-answer (refusal 4 origin t d) words-room bytes-room
+      | false ↦ elim (ltb bytes-room d) [
+        | true ↦ blank-answer (refusal 5 origin t d) words-room bytes-room
+        | false ↦ record { verdict = accepted t d; words = filled words-room (records 0 ts); bytes = filled bytes-room (texts ts) }
       ]
     ]
 
 unfoldable pub answer-for : Outcome → ℕ → ℕ → Answer
-answer-for (scanned es) wordsRoom bytesRoom = lent (settled 0 es) wordsRoom bytesRoom
-answer-for (stopped n m) wordsRoom bytesRoom = blank-answer (refusal n m 0 0) wordsRoom bytesRoom
-answer-for spent wordsRoom bytesRoom = blank-answer no-verdict wordsRoom bytesRoom
+answer-for (scanned es) words-room bytes-room = lent (tokens-of es) words-room bytes-room
+answer-for (stopped n m) words-room bytes-room = blank-answer (refusal n m 0 0) words-room bytes-room
+answer-for spent words-room bytes-room = blank-answer no-verdict words-room bytes-room
 
 unfoldable pub outcome : Limits → List ℕ → Outcome
 outcome limits bytes =
@@ -135,7 +124,7 @@ outcome limits bytes =
 
 -- the whole answer. Order: 1; 2 or 3; the first rule broken; 4; 5
 unfoldable pub answer : Limits → List ℕ → ℕ → ℕ → Answer
-answer limits bytes wordsRoom bytesRoom = answer-for (outcome limits bytes) wordsRoom bytesRoom
+answer limits bytes words-room bytes-room = answer-for (outcome limits bytes) words-room bytes-room
 
 -- the limits of 01
 abbrev pub standard : Limits

@@ -12,22 +12,22 @@ use Rattle.yaml_lexeme.specs.Token.{BlockEnd, Kind, Lexeme, Token, empty-token}
 use Rattle.yaml_scan.specs.Indent.{Indents, Unrolled, top-ends, unroll}
 use Rattle.yaml_scan.specs.declared.Candidate.{Candidate}
 use Rattle.yaml_scan.specs.declared.Level.{Level}
-use Rattle.yaml_scan.specs.declared.Candidate.the-variants.{Possible}
-use Rattle.yaml_scan.specs.Keys.{lapse, remove, set-key, top-key}
+use Rattle.yaml_scan.specs.declared.Candidate.the-variants.{Absent, Possible}
+use Rattle.yaml_scan.specs.Keys.{lapse, set-key, top-key}
 
 pub record State : Type 0 where
   pub place : Place
   -- only blanks stand between the line's start and here
-  pub leads : Bool
+  pub leading-whitespace : Bool
   -- a simple key is allowed
-  pub allowed : Bool
+  pub simple-key-allowed : Bool
   pub indents : Indents
   -- one per level, the current one first
   pub keys : List Candidate
   -- the innermost first; none at level 0
   pub levels : List Level
   -- index + 1 directly after a quoted scalar's or closing bracket's span; 0: none
-  pub adjacent : ℕ
+  pub adjacent-value-allowed-at : ℕ
   -- how many tokens were given so far, without those put in before a candidate
   pub count : ℕ
 
@@ -54,23 +54,23 @@ rest-of s = s .place .rest
 
 abbrev pub at-place : Place → Bool → State → State
 at-place p leads s =
-    record { place = p; leads = leads; allowed = s .allowed; indents = s .indents; keys = s .keys; levels = s .levels; adjacent = s .adjacent; count = s .count }
+    record { place = p; leading-whitespace = leads; simple-key-allowed = s .simple-key-allowed; indents = s .indents; keys = s .keys; levels = s .levels; adjacent-value-allowed-at = s .adjacent-value-allowed-at; count = s .count }
 
 abbrev pub allow : Bool → State → State
 allow b s =
-    record { place = s .place; leads = s .leads; allowed = b; indents = s .indents; keys = s .keys; levels = s .levels; adjacent = s .adjacent; count = s .count }
+    record { place = s .place; leading-whitespace = s .leading-whitespace; simple-key-allowed = b; indents = s .indents; keys = s .keys; levels = s .levels; adjacent-value-allowed-at = s .adjacent-value-allowed-at; count = s .count }
 
 abbrev pub with-indents : Indents → State → State
 with-indents i s =
-    record { place = s .place; leads = s .leads; allowed = s .allowed; indents = i; keys = s .keys; levels = s .levels; adjacent = s .adjacent; count = s .count }
+    record { place = s .place; leading-whitespace = s .leading-whitespace; simple-key-allowed = s .simple-key-allowed; indents = i; keys = s .keys; levels = s .levels; adjacent-value-allowed-at = s .adjacent-value-allowed-at; count = s .count }
 
 abbrev pub with-keys : List Candidate → State → State
 with-keys ks s =
-    record { place = s .place; leads = s .leads; allowed = s .allowed; indents = s .indents; keys = ks; levels = s .levels; adjacent = s .adjacent; count = s .count }
+    record { place = s .place; leading-whitespace = s .leading-whitespace; simple-key-allowed = s .simple-key-allowed; indents = s .indents; keys = ks; levels = s .levels; adjacent-value-allowed-at = s .adjacent-value-allowed-at; count = s .count }
 
 abbrev pub with-levels : List Level → State → State
 with-levels ls s =
-    record { place = s .place; leads = s .leads; allowed = s .allowed; indents = s .indents; keys = s .keys; levels = ls; adjacent = s .adjacent; count = s .count }
+    record { place = s .place; leading-whitespace = s .leading-whitespace; simple-key-allowed = s .simple-key-allowed; indents = s .indents; keys = s .keys; levels = ls; adjacent-value-allowed-at = s .adjacent-value-allowed-at; count = s .count }
 
 -- the innermost level changed; at level 0 there is none
 unfoldable pub on-level : (Level → Level) → List Level → List Level
@@ -80,21 +80,21 @@ on-level f (l ∷ ls) = f l ∷ ls
 -- ':' stands directly after what was read up to here (K5)
 abbrev pub adjacent-here : State → State
 adjacent-here s =
-    record { place = s .place; leads = s .leads; allowed = s .allowed; indents = s .indents; keys = s .keys; levels = s .levels; adjacent = mark-of s .index + 1; count = s .count }
+    record { place = s .place; leading-whitespace = s .leading-whitespace; simple-key-allowed = s .simple-key-allowed; indents = s .indents; keys = s .keys; levels = s .levels; adjacent-value-allowed-at = mark-of s .index + 1; count = s .count }
 
 abbrev pub counting : ℕ → State → State
 counting n s =
-    record { place = s .place; leads = s .leads; allowed = s .allowed; indents = s .indents; keys = s .keys; levels = s .levels; adjacent = s .adjacent; count = s .count + n }
+    record { place = s .place; leading-whitespace = s .leading-whitespace; simple-key-allowed = s .simple-key-allowed; indents = s .indents; keys = s .keys; levels = s .levels; adjacent-value-allowed-at = s .adjacent-value-allowed-at; count = s .count + n }
 
 -- K2: the candidate of this level, saved as save_simple_key does; required at the block's own column [B13]
 unfoldable pub save-key : State → State
 save-key s =
     let required = not (in-flow s) && eqb (s .indents .indent) (edge-of (mark-of s)) && top-ends (s .indents .entries) in
-    pick (s .allowed) (with-keys (set-key (Possible required (s .count) (mark-of s)) (s .keys)) s) s
+    pick (s .simple-key-allowed) (with-keys (set-key (Possible required (s .count) (mark-of s)) (s .keys)) s) s
 
--- K2: this level's candidate goes
-unfoldable pub remove-key : State → Read State
-remove-key s = remove (mark-of s) (top-key (s .keys)) >>= λ k. got (with-keys (set-key k (s .keys)) s)
+-- K2: this level's candidate goes. 41 for a required one is never met here (Removal), so it is not asked [B11]
+unfoldable pub remove-key : State → State
+remove-key s = with-keys (set-key Absent (s .keys)) s
 
 -- K2: the check before each token; in flow no candidate lapses [B7]
 unfoldable pub lapse-key : State → Read State

@@ -6,7 +6,7 @@ use mathlib.Core.Logic.{_⊎_, inl, inr}
 use mathlib.Core.Path.{_≡_}
 use native.Mathlib.Omega.{arith}
 use Rattle.yaml_text.specs.declared.Mark.{Mark}
-use Rattle.yaml_text.specs.Class.{isBlank, isBlankOrBreakz, isBreak, isBreakz, isZ, peek}
+use Rattle.yaml_text.specs.Class.{is-blank, is-blank-or-breakz, is-break, is-breakz, is-z, peek}
 use Rattle.yaml_text.specs.Mark.{Place, edge-of, here, look, over}
 use Rattle.yaml_text.specs.Refusal.{got}
 use Rattle.yaml_text.specs.Test.{by-pick, by-test}
@@ -23,7 +23,8 @@ use Rattle.yaml_scan.specs.declared.Limits.{Limits}
 use Rattle.yaml_scan.specs.IndentLaws.{blocks-of, unroll-blocks}
 use Rattle.yaml_scan.specs.Keys.{set-key, top-key}
 use Rattle.yaml_scan.specs.State.{News, State, allow, at-place, block-ends, counting, ends-with, goes-on, in-flow, lapse-key, mark-of, preceded, rest-of, with-indents, with-keys}
-use Rattle.yaml_scan.specs.Choice.{choice, fetch, fetch-next}
+use Rattle.yaml_scan.specs.Choice.{choice}
+use Rattle.yaml_scan.specs.Fetch.{fetch, fetch-next}
 use Rattle.yaml_scan.specs.Scan.{step, to-next-token, unrolled}
 use Rattle.yaml_scan.specs.Candidates.{Over}
 use Rattle.yaml_scan.specs.ChoiceLaws.{choice-says}
@@ -33,7 +34,7 @@ use Rattle.yaml_scan.specs.FetchMoves.{fetch-moves, stream-end-moves}
 
 -- a blank or a break is passed over: from p, before which it stands, to q
 abbrev pub Spares : Place → Place → Type 0
-Spares p q = one-if (isBlankOrBreakz (look p)) + 2 * left q ≤ one-if (isZ (look q)) + 2 * left p
+Spares p q = one-if (is-blank-or-breakz (look p)) + 2 * left q ≤ one-if (is-z (look q)) + 2 * left p
 
 -- what becomes of the candidates at the mark m
 pub data Lapses (s : State) (m : Mark) : List Candidate → Type 0 where
@@ -48,19 +49,19 @@ pub data Gapped (s : State) : State → Type 0 where
 pub one-most : (b : Bool) → one-if b ≤ 1
 one-most b = by-pick (λ (n : ℕ). n ≤ 1) b _ _ (omega arith) (omega arith)
 
-no-gap : (c : ℕ) → isBreak c ≡ false → isBlank c ≡ false → isZ c ≡ false → isBlankOrBreakz c ≡ false
-unfolding isBlankOrBreakz isBreakz
+no-gap : (c : ℕ) → is-break c ≡ false → is-blank c ≡ false → is-z c ≡ false → is-blank-or-breakz c ≡ false
+unfolding is-blank-or-breakz is-breakz
 no-gap c e f z = rw (e, f, z)
 
 gap-spares : (flow allowed : Bool) (b : Before) (m : Mark) (cs : List ℕ) → All Gap (λ g. NoNul cs → Spares (here m cs) (g .place)) (skip-gap flow allowed b m cs)
-unfolding skip-gap gap-turn isZ
-gap-spares flow allowed b m [] = let h : NoNul [] → Spares (here m []) (here m []) = λ _. omega (arith, one-most (isBlankOrBreakz 0)) in holds h
+unfolding skip-gap gap-turn is-z
+gap-spares flow allowed b m [] = let h : NoNul [] → Spares (here m []) (here m []) = λ _. omega (arith, one-most (is-blank-or-breakz 0)) in holds h
 gap-spares flow allowed b m (c ∷ cs) =
-    by-test (isBreak c)
-    (λ e. rw (e, gap-turn) (all-weak (λ g f _. omega (arith, one-most (isBlankOrBreakz c), fits-left f)) (skip-gap-fit _ _ _ (over m c (peek cs 0)) cs)))
-    (λ e. by-test (isBlank c)
-    (λ f. rw (e, f, gap-turn) (all-weak (λ g h _. omega (arith, one-most (isBlankOrBreakz c), fits-left h)) (skip-gap-fit _ _ _ (over m c (peek cs 0)) cs)))
-    (λ f. all-weak (λ g h n. let z : one-if (isBlankOrBreakz c) ≡ 0 = rw (no-gap c e f (n .0)) in omega (arith, fits-left h)) (skip-gap-fit flow allowed b m (c ∷ cs))))
+    by-test (is-break c)
+    (λ e. rw (e, gap-turn) (all-weak (λ g f _. omega (arith, one-most (is-blank-or-breakz c), fits-left f)) (skip-gap-fit _ _ _ (over m c (peek cs 0)) cs)))
+    (λ e. by-test (is-blank c)
+    (λ f. rw (e, f, gap-turn) (all-weak (λ g h _. omega (arith, one-most (is-blank-or-breakz c), fits-left h)) (skip-gap-fit _ _ _ (over m c (peek cs 0)) cs)))
+    (λ f. all-weak (λ g h n. let z : one-if (is-blank-or-breakz c) ≡ 0 = rw (no-gap c e f (n .0)) in omega (arith, fits-left h)) (skip-gap-fit flow allowed b m (c ∷ cs))))
 
 -- the gap and the lapse
 
@@ -85,7 +86,7 @@ to-next-token-gapped : (s : State) → All State (Gapped s) (to-next-token s)
 unfolding to-next-token
 to-next-token-gapped s =
     all-bind _ (all-both (skip-gap-fit _ _ _ (mark-of s) (rest-of s)) (gap-spares _ _ _ (mark-of s) (rest-of s)))
-    (λ g h. lapse-gapped s (g .place) (g .leads) (g .allowed) (h .0) (h .1))
+    (λ g h. lapse-gapped s (g .place) (g .leading-whitespace) (g .simple-key-allowed) (h .0) (h .1))
 
 -- one token
 
@@ -101,7 +102,7 @@ takes s (ends-with es) h = tt
 next-moves : (limits : Limits) (s : State) → All News (Moves s) (fetch-next limits s)
 unfolding choice fetch
 next-moves limits s =
-    by-test (isZ (look (s .place)))
+    by-test (is-z (look (s .place)))
     (λ e. rw (e, choice) (stream-end-moves s))
     (λ e. fetch-moves limits (choice s) s (choice-says s) (some-left (rest-of s) e))
 

@@ -5,7 +5,7 @@ use mathlib.Core.List.{List, [], _++_, _∷_, map}
 use lib.Dec.{eqb}
 use Rattle.yaml_text.specs.declared.Mark.{Mark}
 use Rattle.yaml_text.specs.Pick.{pick}
-use Rattle.yaml_text.specs.Class.{isBlankOrBreakz, isFlow, peek}
+use Rattle.yaml_text.specs.Class.{is-blank-or-breakz, is-flow, peek}
 use Rattle.yaml_text.specs.Mark.{Place, along, edge-of, skip-by}
 use Rattle.yaml_text.specs.Refusal.{Read, _>>=_, need}
 use Rattle.yaml_lexeme.specs.Token.{BlockEntry, BlockMappingStart, BlockSequenceStart, FlowMappingStart, Key, Kind, Lexeme, Value, empty-token, lexeme}
@@ -28,9 +28,9 @@ roll-state limits m s = roll-at (limits .entries) (in-flow s) (mark-of s) (edge-
 -- K4: '-'. 46: in flow, or no simple key is allowed [D1, J4]
 unfoldable pub fetch-block-entry : Limits → State → Read News
 fetch-block-entry limits s₀ = do
-  _ ← need (not (in-flow s₀) && s₀ .allowed) 46 (mark-of s₀)
+  _ ← need (not (in-flow s₀) && s₀ .simple-key-allowed) 46 (mark-of s₀)
   r ← roll-state limits (mark-of s₀) s₀
-  s ← remove-key (with-indents (r .indents) s₀)
+  let s = remove-key (with-indents (r .indents) s₀)
   let l = one-character BlockEntry (s .place)
   emit (empty-if (r .starts) BlockSequenceStart (mark-of s) ++ (put (l .token) ∷ [])) (at-place (l .place) false (allow true s))
 
@@ -41,9 +41,9 @@ questioned ls = on-level (λ l. record { sequence = l .sequence; colon = l .colo
 -- K4: '?'. 46: at level 0 no simple key is allowed [B9, B10, D3]
 unfoldable pub fetch-key : Limits → State → Read News
 fetch-key limits s₀ = do
-  _ ← need (in-flow s₀ || s₀ .allowed) 46 (mark-of s₀)
+  _ ← need (in-flow s₀ || s₀ .simple-key-allowed) 46 (mark-of s₀)
   r ← roll-state limits (mark-of s₀) s₀
-  s ← remove-key (with-indents (r .indents) s₀)
+  let s = remove-key (with-indents (r .indents) s₀)
   let l = one-character Key (s .place)
   emit (empty-if (r .starts) BlockMappingStart (mark-of s) ++ (put (l .token) ∷ []))
       (at-place (l .place) false (allow (not (in-flow s)) (with-levels (questioned (s .levels)) s)))
@@ -52,7 +52,7 @@ fetch-key limits s₀ = do
 unfoldable pub takes-colon : State → Bool
 takes-colon s =
     let n = peek (rest-of s) 1 in
-    isBlankOrBreakz n || (in-flow s && (isFlow n || eqb (s .adjacent) (mark-of s .index + 1)))
+    is-blank-or-breakz n || (in-flow s && (is-flow n || eqb (s .adjacent-value-allowed-at) (mark-of s .index + 1)))
 
 -- K5: the first ':' of a sequence's entry, if no '?' came before it [C7, C8]
 unfoldable pub begins-pair : List Level → Bool
@@ -87,7 +87,7 @@ value-with limits n k s = do
 -- K5: without. 46: at level 0 a simple key must be allowed
 unfoldable pub value-without : Limits → State → Read News
 value-without limits s = do
-  _ ← need (in-flow s || s .allowed) 46 (mark-of s)
+  _ ← need (in-flow s || s .simple-key-allowed) 46 (mark-of s)
   r ← roll-state limits (mark-of s) s
   let starts = empty-if (begins-pair (s .levels)) FlowMappingStart (mark-of s) ++ empty-if (r .starts) BlockMappingStart (mark-of s)
   emit (starts ++ (put (one-character Value (s .place) .token) ∷ [])) (valued (not (in-flow s)) (r .indents) s)

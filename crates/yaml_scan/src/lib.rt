@@ -11,8 +11,11 @@ pub struct Limits {
 // A simple key's candidate (K2).
 pub enum Candidate {
     Absent,
-    // Whether it is required, the number of its token, its mark.
-    Possible(bool, u32, Mark),
+    Possible {
+        required: bool,
+        token_number: u32,
+        mark: Mark,
+    },
 }
 
 // A flow level.
@@ -34,11 +37,11 @@ pub enum Choice {
     BelowIndent,
     Stray,
     // `---`, not `...`.
-    AtMarker(bool),
+    AtMarker { starts: bool },
     // '[', not '{'.
-    Opens(bool),
+    Opens { sequence: bool },
     // ']', not '}'.
-    Closes(bool),
+    Closes { sequence: bool },
     AtComma,
     AtDash,
     AtQuestion,
@@ -46,9 +49,9 @@ pub enum Choice {
     AtTag,
     AtPlain,
     // An alias, not an anchor.
-    AtAnchor(bool),
+    AtAnchor { alias: bool },
     // '|', not '>'.
-    AtBlock(bool),
+    AtBlock { literal: bool },
     // Single, not double.
-    AtQuoted(bool),
+    AtQuoted { single: bool },
 }

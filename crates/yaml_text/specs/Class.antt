@@ -18,67 +18,67 @@ among c [] = false
 among c (x ∷ xs) = eqb c x || among c xs
 
 -- the end of the text
-unfoldable pub isZ : ℕ → Bool
-isZ c = eqb c 0
+unfoldable pub is-z : ℕ → Bool
+is-z c = eqb c 0
 
 -- 5.4
-unfoldable pub isBreak : ℕ → Bool
-isBreak c = eqb c line-feed || eqb c carriage-return
+unfoldable pub is-break : ℕ → Bool
+is-break c = eqb c line-feed || eqb c carriage-return
 
-unfoldable pub isBreakz : ℕ → Bool
-isBreakz c = isBreak c || isZ c
+unfoldable pub is-breakz : ℕ → Bool
+is-breakz c = is-break c || is-z c
 
 -- 5.5
-unfoldable pub isBlank : ℕ → Bool
-isBlank c = eqb c space || eqb c tab
+unfoldable pub is-blank : ℕ → Bool
+is-blank c = eqb c space || eqb c tab
 
-unfoldable pub isBlankOrBreakz : ℕ → Bool
-isBlankOrBreakz c = isBlank c || isBreakz c
+unfoldable pub is-blank-or-breakz : ℕ → Bool
+is-blank-or-breakz c = is-blank c || is-breakz c
 
 -- 5.3: , [ ] { }
-unfoldable pub isFlow : ℕ → Bool
-isFlow c = among c (comma ∷ '[' ∷ ']' ∷ open-brace ∷ close-brace ∷ [])
+unfoldable pub is-flow : ℕ → Bool
+is-flow c = among c (comma ∷ '[' ∷ ']' ∷ open-brace ∷ close-brace ∷ [])
 
 -- 5.2
-unfoldable pub isBom : ℕ → Bool
-isBom c = eqb c byte-order-mark
+unfoldable pub is-bom : ℕ → Bool
+is-bom c = eqb c byte-order-mark
 
--- 5.6, to isTag
-unfoldable pub isDigit : ℕ → Bool
-isDigit c = leb 48 c && leb c 57
+-- 5.6, to is-tag
+unfoldable pub is-digit : ℕ → Bool
+is-digit c = leb 48 c && leb c 57
 
-unfoldable pub isHex : ℕ → Bool
-isHex c = isDigit c || (leb 65 c && leb c 70) || (leb 97 c && leb c 102)
+unfoldable pub is-hex : ℕ → Bool
+is-hex c = is-digit c || (leb 65 c && leb c 70) || (leb 97 c && leb c 102)
 
 -- the value of a hexadecimal digit
-unfoldable pub asHex : ℕ → ℕ
-asHex c = pick (isDigit c) (c - '0') (pick (leb c 70) (c - 55) (c - 87))
+unfoldable pub as-hex : ℕ → ℕ
+as-hex c = pick (is-digit c) (c - '0') (pick (leb c 70) (c - 55) (c - 87))
 
 -- letters, digits, _ and -
-unfoldable pub isAlpha : ℕ → Bool
-isAlpha c = isDigit c || (leb 65 c && leb c 90) || (leb 97 c && leb c 122) || among c (95 ∷ 45 ∷ [])
+unfoldable pub is-alpha : ℕ → Bool
+is-alpha c = is-digit c || (leb 65 c && leb c 90) || (leb 97 c && leb c 122) || among c (95 ∷ 45 ∷ [])
 
 -- the same without _
-unfoldable pub isWord : ℕ → Bool
-isWord c = isAlpha c && not (eqb c 95)
+unfoldable pub is-word : ℕ → Bool
+is-word c = is-alpha c && not (eqb c 95)
 
 -- word characters and # ; / ? : @ & = + $ , _ . ! ~ * ' ( ) [ ] %, which begins an escape
-unfoldable pub isUri : ℕ → Bool
-isUri c =
-    isWord c
+unfoldable pub is-uri : ℕ → Bool
+is-uri c =
+    is-word c
     || among c
     (35 ∷ 59 ∷ 47 ∷ 63 ∷ 58 ∷ 64 ∷ 38 ∷ 61 ∷ 43 ∷ 36 ∷ 44 ∷ 95 ∷ 46 ∷ 33 ∷ 126 ∷ 42 ∷ 39 ∷ 40 ∷ 41 ∷ 91 ∷ 93 ∷ 37 ∷ [])
 
-unfoldable pub isTag : ℕ → Bool
-isTag c = isUri c && not (isFlow c) && not (eqb c '!')
+unfoldable pub is-tag : ℕ → Bool
+is-tag c = is-uri c && not (is-flow c) && not (eqb c '!')
 
 -- 5.5: neither blank, break, end nor byte order mark. A character of a directive's words
-unfoldable pub isNonSpace : ℕ → Bool
-isNonSpace c = not (isBlankOrBreakz c) && not (isBom c)
+unfoldable pub is-non-space : ℕ → Bool
+is-non-space c = not (is-blank-or-breakz c) && not (is-bom c)
 
 -- 6.9.2
-unfoldable pub isAnchor : ℕ → Bool
-isAnchor c = isNonSpace c && not (isFlow c)
+unfoldable pub is-anchor : ℕ → Bool
+is-anchor c = is-non-space c && not (is-flow c)
 
 -- two texts are the same
 unfoldable pub same : List ℕ → List ℕ → Bool

@@ -6,14 +6,14 @@ use Rattle.yaml_text.specs.declared.Decoded.{Decoded}
 use Rattle.yaml_text.specs.declared.Decoded.the-variants.{Char, End, Ill}
 use Rattle.yaml_text.specs.declared.Mark.{Mark}
 use Rattle.yaml_text.specs.Utf8.{first}
-use Rattle.yaml_text.specs.Class.{isZ, peek}
+use Rattle.yaml_text.specs.Class.{is-z, peek}
 use Rattle.yaml_text.specs.Mark.{over}
 use Rattle.yaml_text.specs.Refusal.{Read, _>>=_, got, need, refused}
 
 -- 2 and 3: ill-formed UTF-8 and NUL, whichever stands earlier. (At a byte something stands, so it is never `End`.) [J7, J8]
 abbrev pub decoded-char : Decoded → Mark → (ℕ → ℕ → Read (List ℕ)) → Read (List ℕ)
 decoded-char (Char c n) m go =
-    need (not (isZ c)) 3 m >>= λ _. go c (pred n) >>= λ cs. got (c ∷ cs)
+    need (not (is-z c)) 3 m >>= λ _. go c (pred n) >>= λ cs. got (c ∷ cs)
 decoded-char Ill m go = refused 2 m
 decoded-char End m go = refused 2 m
 

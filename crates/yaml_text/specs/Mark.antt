@@ -7,7 +7,7 @@ use lib.ListN.{drop}
 use Rattle.yaml_text.specs.declared.Mark.{Mark}
 use Rattle.yaml_text.specs.Pick.{pick}
 use Rattle.yaml_text.specs.Char.{'-', carriage-return, dot, line-feed}
-use Rattle.yaml_text.specs.Class.{isBlankOrBreakz, isBreak, peek}
+use Rattle.yaml_text.specs.Class.{is-blank-or-breakz, is-break, peek}
 
 abbrev pub origin : Mark
 origin = record { index = 0; line = 1; col = 0 }
@@ -33,18 +33,18 @@ abbrev pub over-bom : Mark → Mark
 over-bom m = record { index = m .index + 1; line = m .line; col = m .col }
 
 -- the character c before the character d is the CR of a CR LF, which is one break: its LF ends the line
-unfoldable pub halfBreak : ℕ → ℕ → Bool
-halfBreak c d = eqb c carriage-return && eqb d line-feed
+unfoldable pub half-break : ℕ → ℕ → Bool
+half-break c d = eqb c carriage-return && eqb d line-feed
 
 -- over the character c, before the character d: LF, CR and CR LF are each one break
 unfoldable pub over : Mark → ℕ → ℕ → Mark
 over m c d =
-    pick (halfBreak c d) (record { index = m .index + 1; line = m .line; col = m .col })
-    (pick (isBreak c) (new-line 1 m) (along m))
+    pick (half-break c d) (record { index = m .index + 1; line = m .line; col = m .col })
+    (pick (is-break c) (new-line 1 m) (along m))
 
 -- how many lines end with the character c, before the character d
 unfoldable pub ends-line : ℕ → ℕ → ℕ
-ends-line c d = pick (halfBreak c d) 0 (pick (isBreak c) 1 0)
+ends-line c d = pick (half-break c d) 0 (pick (is-break c) 1 0)
 
 -- what is left of the text, with the mark of its first character
 pub record Place : Type 0 where
@@ -64,7 +64,7 @@ skip-by n p = here (along-by n (p .mark)) (drop n (p .rest))
 
 -- how many characters the break here takes; 0: no break stands here
 unfoldable pub break-length : List ℕ → ℕ
-break-length cs = pick (halfBreak (peek cs 0) (peek cs 1)) 2 (pick (isBreak (peek cs 0)) 1 0)
+break-length cs = pick (half-break (peek cs 0) (peek cs 1)) 2 (pick (is-break (peek cs 0)) 1 0)
 
 -- past the break, if one stands here
 unfoldable pub skip-break : Place → Place
@@ -73,13 +73,13 @@ skip-break p =
     pick (eqb n 0) p (here (new-line n (p .mark)) (drop n (p .rest)))
 
 -- `---` or `...` at column 0, before blank, break or end
-unfoldable pub isMarker : Mark → List ℕ → Bool
-isMarker m cs =
+unfoldable pub is-marker : Mark → List ℕ → Bool
+is-marker m cs =
     eqb (m .col) 0
     && (eqb (peek cs 0) '-' || eqb (peek cs 0) dot)
     && eqb (peek cs 1) (peek cs 0)
     && eqb (peek cs 2) (peek cs 0)
-    && isBlankOrBreakz (peek cs 3)
+    && is-blank-or-breakz (peek cs 3)
 
 -- the text of a run of characters, with the place behind it
 pub record Run : Type 0 where
@@ -94,10 +94,10 @@ abbrev pub before-run : List ℕ → Run → Run
 before-run t r = record { text = t ++ r .text; place = r .place }
 
 -- the longest run of characters of a class without breaks
-unfoldable pub word : (ℕ → Bool) → Mark → List ℕ → Run
-word p m [] = nothing-at (here m [])
-word p m (c ∷ cs) =
+unfoldable pub run-of : (ℕ → Bool) → Mark → List ℕ → Run
+run-of p m [] = nothing-at (here m [])
+run-of p m (c ∷ cs) =
     elim (p c) [
-      | true ↦ before-run (c ∷ []) (word p (along m) cs)
+      | true ↦ before-run (c ∷ []) (run-of p (along m) cs)
       | false ↦ nothing-at (here m (c ∷ cs))
     ]

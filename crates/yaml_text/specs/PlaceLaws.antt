@@ -10,8 +10,8 @@ use lib.ListN.{drop, length, length-drop}
 use lib.Seq.{drop-drop}
 use Rattle.yaml_text.specs.declared.Mark.{Mark}
 use Rattle.yaml_text.specs.Char.{carriage-return, line-feed}
-use Rattle.yaml_text.specs.Class.{isBreak, peek}
-use Rattle.yaml_text.specs.Mark.{Place, along, break-length, halfBreak, here, look, new-line, over, skip-break, skip-by, word}
+use Rattle.yaml_text.specs.Class.{is-break, peek}
+use Rattle.yaml_text.specs.Mark.{Place, along, break-length, half-break, here, look, new-line, over, skip-break, skip-by, run-of}
 use Rattle.yaml_text.specs.Test.{both-true, by-pick, by-test, true-false}
 use Rattle.yaml_text.specs.DecodeLaws.{NoNul, no-nul-drop}
 
@@ -77,9 +77,9 @@ fits-along m c cs f = fits-next c cs refl (le-refl _) (λ _. omega arith) f
 pub fits-over : (m : Mark) (c d : ℕ) (cs : List ℕ) {q : Place} → Fits (here (over m c d) cs) q → Fits (here m (c ∷ cs)) q
 unfolding over
 fits-over m c d cs f =
-    by-test (halfBreak c d)
+    by-test (half-break c d)
     (λ e. fits-next c cs refl (le-refl _) (λ _. le-refl _) (rw e at f))
-    (λ e. by-test (isBreak c)
+    (λ e. by-test (is-break c)
     (λ g. fits-next c cs refl (omega arith) (λ same. absurd (omega arith)) (rw (e, g) at f))
     (λ g. fits-next c cs refl (le-refl _) (λ _. omega arith) (rw (e, g) at f)))
 
@@ -104,12 +104,12 @@ break-fit n p h = record { taken = n; within = h; rest-is = refl; index-is = ref
 
 -- a break that stands here is there
 pub break-there : (cs : List ℕ) → break-length cs ≤ length cs
-unfolding break-length halfBreak isBreak
+unfolding break-length half-break is-break
 break-there cs =
-    by-test (halfBreak (peek cs 0) (peek cs 1))
+    by-test (half-break (peek cs 0) (peek cs 1))
     (λ e. rw e (there (λ d. eqb d line-feed) cs 1 refl (both-true (eqb (peek cs 0) carriage-return) _ e .1)))
-    (λ e. by-test (isBreak (peek cs 0))
-    (λ f. rw (e, f) (there isBreak cs 0 refl f))
+    (λ e. by-test (is-break (peek cs 0))
+    (λ f. rw (e, f) (there is-break cs 0 refl f))
     (λ f. rw (e, f) (omega arith)))
 
 pub skip-break-fit : (p : Place) → Fits p (skip-break p)
@@ -119,17 +119,17 @@ skip-break-fit p =
     by-pick (Fits p) (eqb n 0) p (here (new-line n (p .mark)) (drop n (p .rest))) (fits-refl p) (break-fit n p (break-there (p .rest)))
 
 -- past a break the line is over
-pub skip-break-line : (p : Place) → isBreak (look p) ≡ true → p .mark .line < skip-break p .mark .line
+pub skip-break-line : (p : Place) → is-break (look p) ≡ true → p .mark .line < skip-break p .mark .line
 unfolding skip-break break-length
 skip-break-line p e =
-    by-test (halfBreak (look p) (peek (p .rest) 1))
+    by-test (half-break (look p) (peek (p .rest) 1))
     (λ f. rw f (omega arith))
     (λ f. rw (f, e) (omega arith))
 
-pub word-fit : (f : ℕ → Bool) (m : Mark) (cs : List ℕ) → Fits (here m cs) (word f m cs .place)
-unfolding word
-word-fit f m [] = fits-refl _
-word-fit f m (c ∷ cs) =
+pub run-of-fit : (f : ℕ → Bool) (m : Mark) (cs : List ℕ) → Fits (here m cs) (run-of f m cs .place)
+unfolding run-of
+run-of-fit f m [] = fits-refl _
+run-of-fit f m (c ∷ cs) =
     by-test (f c)
-    (λ e. rw (e, word) (fits-along m c cs (word-fit f (along m) cs)))
-    (λ e. rw (e, word) (fits-refl _))
+    (λ e. rw (e, run-of) (fits-along m c cs (run-of-fit f (along m) cs)))
+    (λ e. rw (e, run-of) (fits-refl _))

@@ -3,7 +3,7 @@ use Prim.Native.Nat.{ℕ}
 use mathlib.Core.List.{List, [], _∷_}
 use mathlib.Core.Path.{_≡_, refl}
 use Rattle.yaml_text.specs.declared.Decoded.the-variants.{Char, Ill}
-use Rattle.yaml_text.specs.Utf8.{byLen, first, four, isScalar, isTail, lenOf, three, two}
+use Rattle.yaml_text.specs.Utf8.{by-len, first, four, is-scalar, is-tail, len-of, three, two}
 
 abbrev Reads : List ℕ → ℕ → ℕ → Type 0
 Reads l c n = first l ≡ Char c n
@@ -45,6 +45,6 @@ Utf8Edges =
     × Refuses (0xF1 ∷ 0x80 ∷ 0x80 ∷ [])
 
 pub utf8-edges : Utf8Edges
-unfolding Utf8Edges first byLen lenOf two three four isTail isScalar
+unfolding Utf8Edges first by-len len-of two three four is-tail is-scalar
 utf8-edges =
     (refl, refl, refl, refl, refl, refl, refl, refl, refl, refl, refl, refl, refl, refl, refl, refl, refl, refl, refl, refl, refl, refl, refl, refl, refl, refl, refl)

@@ -1,144 +1,180 @@
-use mathlib.Core.Path.{_∙_, refl}
+-- All that refuses is asked before the words are touched; then the candidate, the entry and the level are those of the definition.
+use mathlib.Core.Bool.{false}
+use mathlib.Core.Path.{_∙_, ap, refl}
 use native.Mathlib.Omega.{arith}
+use denote.Ref.{now}
 use borrow.Author.Needs.{needs}
-use Rattle.states.specs.Goes.{fetch-refused}
-use Rattle.brackets.proofs.Answers.{emitted, opens}
-use Rattle.brackets.proofs.Levels.{opens-low, start-deep, start-full, start-goes}
-use Rattle.brackets.proofs.Stacked.{stacked-low}
+use Rattle.yaml_text.specs.Pick.{pick}
+use Rattle.yaml_lexeme.specs.Token.{FlowMappingStart, FlowSequenceStart}
+use Rattle.states.specs.Answer.{fetch-refused, lent-kept}
+use Rattle.brackets.specs.Emit.{emit-bracket}
+use Rattle.brackets.proofs.Emitted.{Past, emits-to, opens, past-index, stands-second}
+use Rattle.brackets.proofs.Levels.{ready-key, start-deep, start-emits, start-full, start-low, start-refused, start-state, start-words}
 use Rattle.brackets.proofs.fetch_flow_collection_start.Statement.{statement}
 use Rattle.brackets.proofs.fetch_flow_collection_start.Tie as tie
 
 -- the places, each from one behind it
 
-abbrev start : tie.After-save-key → tie.Start
-start c = c .before .before .before .before .before .before
+abbrev start : tie.After-needs-entry → tie.Start
+start c = c .before .before .before .before
+
+-- the entry fits
+abbrev entry : tie.Else1 → tie.After-needs-entry
+entry c = c .before .before .before
+
+-- so does the level
+abbrev room : tie.Else2 → tie.Else1
+room c = c .before .before .before
+
+abbrev fits : tie.After-rest-of-line → tie.Else2
+fits c = c .before .before
+
+abbrev begin : tie.After-rest-of-line → tie.Start
+begin c = start (entry (room (fits c)))
+
+abbrev line : tie.After-r2 → tie.After-rest-of-line
+line c = c .before .before
+
+abbrev told : tie.After-save-key → tie.After-r2
+told c = c .before .before .before
 
 abbrev save : tie.After-stack-bracket → tie.After-save-key
 save c = c .before .before .before .before
 
-abbrev stack : tie.After-r → tie.After-stack-bracket
+abbrev stack : tie.After-open-level → tie.After-stack-bracket
 stack c = c .before .before .before .before
 
-abbrev indents : tie.Else1 → tie.After-r
-indents c = c .before .before .before .before
+-- what was reached behind the bracket's own byte
+past : (c : tie.After-rest-of-line) → Past (now (begin c .args .text)) (begin c .args .s .place) (c .rest-of-line .result)
+past c = rw (c .before .skip-blank .ensures) at (c .rest-of-line .ensures)
 
--- there is room for a level
-abbrev room : tie.After-open-level → tie.Else1
-room c = c .before .before
+needs-entry-requires : tie.Need-needs-entry-requires
+needs-entry-requires c κs = search needs
 
-abbrev opened : tie.After-opening-kind → tie.After-open-level
-opened c = c .before .before .before
-
-save-key-requires : tie.Need-save-key-requires
-save-key-requires c κs = search needs
-
-stack-bracket-requires : tie.Need-stack-bracket-requires
-stack-bracket-requires c κs = search needs
-
-enum-known-r : tie.Need-enum-known-r
-enum-known-r c = search needs
-
-enum-told : tie.Need-enum-told
-enum-told c = search needs
-
-refuse-brief-requires : tie.Need-refuse-brief-requires
-refuse-brief-requires c κs = search needs
+full-requires : tie.Need-full-requires
+full-requires c κs = search needs
 
 same-length : tie.Need-same-length
 same-length c = search needs
 
+returns : tie.Need-returns
+returns c = let e = c .before .before .before .before in let a = start e .args in
+    rw (c .full .ensures)
+    (fetch-refused (start-full (a .limits) (a .sequence) (now (a .text)) (now (a .stacks)) (a .n .count) (a .s) (e .needs-entry .ensures) (c .before .if1 .taken)) refl)
+
+refuse-brief-requires : tie.Need-refuse-brief-requires
+refuse-brief-requires c κs = search needs
+
 same-length-2 : tie.Need-same-length-2
 same-length-2 c = search needs
 
-returns : tie.Need-returns
-returns c = λ text used q h.
-    let w = c .before .before .before .before .before in
-    let k = save w in
+returns-2 : tie.Need-returns-2
+returns-2 c = let o = c .before .before .before .before in let e = entry o in let a = start e .args in
     rw (c .refuse-brief .ensures)
-    (fetch-refused (start-full (start k .args .sequence) text (k .save-key .ensures) (w .stack-bracket .ensures) (c .before .enum-told .given .1)))
+    (fetch-refused (start-deep (a .limits) (a .sequence) (now (a .text)) (now (a .stacks)) (a .n .count) (a .s) (e .needs-entry .ensures) (o .if1 .left) (c .before .if2 .taken)) refl)
 
-refuse-brief-requires-2 : tie.Need-refuse-brief-requires-2
-refuse-brief-requires-2 c κs = search needs
+skip-blank-requires : tie.Need-skip-blank-requires
+skip-blank-requires c κs = search needs
+
+rest-of-line-requires : tie.Need-rest-of-line-requires
+rest-of-line-requires c κs = let p = start (entry (room (c .before))) .pre in rw (c .skip-blank .ensures) (stands-second (p .0 .stands) (p .1))
+
+enum-known-r : tie.Need-enum-known-r
+enum-known-r c = search needs
 
 same-length-3 : tie.Need-same-length-3
 same-length-3 c = search needs
 
-same-length-4 : tie.Need-same-length-4
-same-length-4 c = search needs
+returns-3 : tie.Need-returns-3
+returns-3 c = let l = c .before .before .before in let f = fits l in let o = room f in let e = entry o in let b = start e in let a = b .args in
+    fetch-refused
+    (start-refused (a .limits) (a .sequence) (now (a .text)) (now (a .stacks)) (a .n .count) (a .s) (e .needs-entry .ensures) (o .if1 .left) (f .if2 .left)
+    (b .pre .0 .stands) (b .pre .1) (past l) (c .before .r .given .1))
+    refl
 
-returns-2 : tie.Need-returns-2
-returns-2 c = λ text used q h.
-    let i = c .before .before .before .before .before in
-    let w = stack i in
-    let k = save w in
-    rw (c .refuse-brief2 .ensures)
-    (fetch-refused (start-deep (start k .args .sequence) text (k .save-key .ensures) (w .stack-bracket .ensures) (i .r .given .1) (c .before .if1 .taken)))
+enum-known-r-2 : tie.Need-enum-known-r-2
+enum-known-r-2 c = search needs
+
+save-key-requires : tie.Need-save-key-requires
+save-key-requires c κs = ready-key (begin (line (c .before .before)) .pre .0)
+
+stack-bracket-requires : tie.Need-stack-bracket-requires
+stack-bracket-requires c κs = let k = c .before .before .before in let l = line (told k) in let p = begin l .pre .0 in
+    record {
+      room = room (fits l) .if1 .left;
+      low = k .save-key .ensures .entries .low _ _ _ (p .lent .entries-most) (p .low);
+      lent = lent-kept (k .save-key .kept .1 .1 .0) (p .lent);
+    }
 
 open-level-requires : tie.Need-open-level-requires
-open-level-requires c κs = let k = save (stack (indents (c .before))) in
-    omega (arith, start k .pre .0 .lent .frames-room, k .save-key .kept .1 .1 .1 .0, c .before .if1 .left)
-
-opening-kind-requires : tie.Need-opening-kind-requires
-opening-kind-requires c κs = search needs
+open-level-requires c κs = let w = c .before .before .before in let k = save w in let l = line (told k) in let p = begin l .pre .0 in
+    (omega (arith, p .lent .levels-most, fits l .if2 .left), omega (arith, p .lent .room, k .save-key .kept .1 .1 .0, w .stack-bracket .kept .1 .1 .1 .0))
 
 with-indents-requires : tie.Need-with-indents-requires
 with-indents-requires c κs = search needs
 
-add-with-depth : tie.Need-add-with-depth
-add-with-depth c = search needs
+add-with-level : tie.Need-add-with-level
+add-with-level c = let l = line (told (save (stack (c .before .before .before .before)))) in omega (arith, begin l .pre .0 .lent .levels-most, fits l .if2 .left)
 
-with-depth-requires : tie.Need-with-depth-requires
-with-depth-requires c κs = search needs
+with-level-requires : tie.Need-with-level-requires
+with-level-requires c κs = search needs
 
-emit-bracket-requires : tie.Need-emit-bracket-requires
-emit-bracket-requires c κs = rw (c .with-depth .ensures, c .before .before .with-indents .ensures) (start (save (stack (indents (room (opened (c .before .before .before)))))) .pre .1)
+opening-kind-requires : tie.Need-opening-kind-requires
+opening-kind-requires c κs = search needs
 
-same-length-5 : tie.Need-same-length-5
-same-length-5 c = stack (indents (room (opened (c .before .before .before .before)))) .stack-bracket .kept .1 .1 .0
+past-requires : tie.Need-past-requires
+past-requires c κs = let t = told (save (stack (c .before .before .before .before .before .before))) in let p = begin (line t) .pre in
+    past-index (p .0 .stands) (p .1) (past (line t)) (t .r2 .given .1)
 
-same-length-6 : tie.Need-same-length-6
-same-length-6 c = let o = opened (c .before .before .before .before) in
-    o .open-level .kept .0 ∙ save (stack (indents (room o))) .save-key .kept .1 .1 .1 .0
+same-length-4 : tie.Need-same-length-4
+same-length-4 c = let o = c .before .before .before .before .before .before .before in let w = stack o in
+    o .open-level .kept .0 ∙ w .stack-bracket .kept .1 .1 .1 .0 ∙ save w .save-key .kept .1 .1 .0
 
-returns-3 : tie.Need-returns-3
-returns-3 c = λ text used q h.
-    let o = opened (c .before .before .before .before) in
-    let d = room o in
-    let i = indents d in
-    let w = stack i in
+returns-4 : tie.Need-returns-4
+returns-4 c = let o = c .before .before .before .before .before .before .before in
+    let w = stack o in
     let k = save w in
-    let sequence = start k .args .sequence in
-    emitted
-    (start-goes sequence text (k .save-key .ensures) (w .stack-bracket .ensures) (i .r .given .1) (d .if1 .left) (o .open-level .ensures))
-    (c .emit-bracket .ensures)
-    (c .before .before .before .before .opening-kind .ensures) (opens sequence)
-    (c .before .with-depth .ensures ∙ rw (c .before .before .before .with-indents .ensures)) refl q h
-    (stacked-low (w .stack-bracket .ensures) (i .r .given .1))
-    (omega (arith, d .if1 .left))
-    (opens-low (k .save-key .ensures) (o .open-level .ensures) h (start k .pre .0 .keys))
+    let t = told k in
+    let l = line t in
+    let e = entry (room (fits l)) in
+    let b = start e in
+    let a = b .args in
+    let y = b .pre .0 in
+    let low = w .stack-bracket .ensures .low in
+    rw (c .past .ensures, c .before .opening-kind .ensures, c .before .before .with-level .ensures, c .before .before .before .before .with-indents .ensures)
+    (emits-to false false (y .stands) (b .pre .1) (past l) (t .r2 .given .1) (opens (a .sequence))
+    (o .open-level .ensures .entries .low _ _ _ (y .lent .entries-most) low)
+    (omega (arith, fits l .if2 .left))
+    (start-low (k .save-key .ensures) (w .stack-bracket .ensures) (o .open-level .ensures) (y .keys) (omega (arith, y .stands)))
+    (start-emits (a .limits) (a .sequence) (now (a .text)) (now (a .stacks)) (a .n .count) (a .s) (e .needs-entry .ensures) (room (fits l) .if1 .left) (fits l .if2 .left)
+    ∙ ap (emit-bracket (pick (a .sequence) FlowSequenceStart FlowMappingStart) false false)
+    (start-state (k .save-key .ensures) (w .stack-bracket .ensures) (o .open-level .ensures) (omega (arith, low .deep, y .lent .entries-most)) (now (a .text))))
+    (start-words (k .save-key .ensures) (w .stack-bracket .ensures) (o .open-level .ensures) (e .needs-entry .ensures)))
 
 pub fetch-flow-collection-start-spec : {M : Type 1} → statement M
 fetch-flow-collection-start-spec =
     tie.close
     (tie.spec
+    needs-entry-requires
+    full-requires
+    same-length
+    returns
+    refuse-brief-requires
+    same-length-2
+    returns-2
+    skip-blank-requires
+    rest-of-line-requires
+    enum-known-r
+    same-length-3
+    returns-3
+    enum-known-r-2
     save-key-requires
     stack-bracket-requires
-    enum-known-r
-    enum-told
-    refuse-brief-requires
-    same-length
-    same-length-2
-    returns
-    refuse-brief-requires-2
-    same-length-3
-    same-length-4
-    returns-2
     open-level-requires
-    opening-kind-requires
     with-indents-requires
-    add-with-depth
-    with-depth-requires
-    emit-bracket-requires
-    same-length-5
-    same-length-6
-    returns-3)
+    add-with-level
+    with-level-requires
+    opening-kind-requires
+    past-requires
+    same-length-4
+    returns-4)

@@ -1,3 +1,4 @@
+-- The frame of the next level is made anew: no candidate, and fresh data.
 use borrow.Author.Needs.{needs}
 use Rattle.brackets.proofs.Levels.{opens-level}
 use Rattle.brackets.proofs.open_level.Statement.{statement}
@@ -21,7 +22,7 @@ same-length c = search needs
 returns : tie.Need-returns
 returns c =
     let k = c .before .before .before .before .before .before .before in
-    opens-level (k .before .before .before .args .depth) (k .clear-key .ensures) (c .before .before .set-level .ensures) (c .before .before .before .new-level .ensures)
+    opens-level (k .before .before .before .args .level) (k .clear-key .ensures) (c .before .before .set-level .ensures) (c .before .before .before .new-level .ensures)
 
 pub open-level-spec : {M : Type 1} → statement M
 open-level-spec =

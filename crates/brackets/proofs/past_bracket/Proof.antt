@@ -1,3 +1,4 @@
+-- Behind one that closes, ':' may stand directly.
 use borrow.Author.Needs.{needs}
 use Rattle.brackets.proofs.past_bracket.Statement.{statement}
 use Rattle.brackets.proofs.past_bracket.Tie as tie

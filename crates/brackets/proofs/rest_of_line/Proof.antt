@@ -1,3 +1,4 @@
+-- Where neither a blank nor '#' stands, the definition reads nothing.
 use borrow.Author.Needs.{needs}
 use Rattle.brackets.proofs.Line.{reaches-here}
 use Rattle.brackets.proofs.rest_of_line.Statement.{statement}

@@ -1,3 +1,4 @@
+-- The blanks and comment are read, or refused, as the definition does; then only a break or the end may stand there.
 use mathlib.Core.Path.{_∙_, refl, sym}
 use Rattle.gaps.specs.Answers.{reached-to}
 use Rattle.directives.proofs.Lines.{ends-open, ends-past, ends-refused}

@@ -1,3 +1,4 @@
+-- What is left to compare from i on tells the whole.
 use denote.Ref.{now}
 use Prim.Native.Nat.{_-_}
 use lib.ListN.{length}

@@ -1,6 +1,7 @@
+-- The arrays have the lengths that are asked; they are told for any length, so that none is computed.
 use lib.Dec.{lit≤}
 use borrow.Author.Needs.{needs}
-use Rattle.lines.specs.Rooms.{array-holds, array-length}
+use Rattle.printing.specs.Rooms.{array-holds, array-length}
 use Rattle.edges.proofs.main.Statement.{statement}
 use Rattle.edges.proofs.main.Tie as tie
 

@@ -1,9 +1,9 @@
--- `gaps::blanks_and_comment` meets its contract.
+-- `gaps::blanks_and_comment` meets its contract: what follows the blanks is told by the byte there.
 use mathlib.Core.Path.{_∙_, _≡_, ap, refl, sym}
 use lib.ListN.{drop}
 use borrow.Author.Tests.{eq-eqb, ne-eqb}
 use Rattle.yaml_text.specs.Char.{'#'}
-use Rattle.yaml_text.specs.Class.{isBlank, peek}
+use Rattle.yaml_text.specs.Class.{is-blank, peek}
 use Rattle.yaml_text.specs.Mark as definition
 use Rattle.yaml_text.specs.Refusal.{refused}
 use Rattle.yaml_text.specs.Utf8.{chars}
@@ -22,7 +22,7 @@ use Rattle.gaps.proofs.blanks_and_comment.Tie as tie
 abbrev B : Type 0
 B = tie.After-is-blank
 
-blank : (c : B) → isBlank (peek (chars (drop (c .before .before .before .args .start .at) (now (c .before .before .before .args .text)))) 0) ≡ c .is-blank .result
+blank : (c : B) → is-blank (peek (chars (drop (c .before .before .before .args .start .at) (now (c .before .before .before .args .text)))) 0) ≡ c .is-blank .result
 blank c =
     ascii-at (now (c .before .before .before .args .text)) (c .before .before .before .args .start .at) _ (c .before .byte .ensures) blank-ascii
     ∙ sym (c .is-blank .ensures)

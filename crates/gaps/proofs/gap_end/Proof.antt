@@ -1,8 +1,8 @@
--- `gaps::gap_end` meets its contract.
+-- `gaps::gap_end` meets its contract: one clause of the definition for each of what may stand before.
 use mathlib.Core.Bool.{false, true}
 use mathlib.Core.Path.{refl}
 use Rattle.yaml_lexeme.specs.declared.Before.the-variants.{AfterText, Leading, Spaced}
-use Rattle.yaml_lexeme.specs.Gap.{isLeading, on-other}
+use Rattle.yaml_lexeme.specs.Gap.{is-leading, on-other}
 use Rattle.gaps.specs.Answers.{skips-to}
 use Rattle.gaps.proofs.Laws.{gap-ends}
 use borrow.Author.Needs.{needs}
@@ -40,7 +40,7 @@ ended-requires-4 : tie.Need-ended-requires-4
 ended-requires-4 c κs = search needs
 
 returns : tie.Need-returns
-unfolding isLeading on-other
+unfolding is-leading on-other
 returns c =
     λ flow. skips-to (c .ended .ensures) (c .before .before .before .before .pre .0)
     (gap-ends flow _ Leading true _ _ (c .before .enum-told .given .1) refl refl (c .before .before .before .before .pre .1))
@@ -49,13 +49,13 @@ returns-2 : tie.Need-returns-2
 returns-2 c = λ flow. rw (c .before .before .b .given .1) (c .tabbed-end .ensures flow)
 
 returns-3 : tie.Need-returns-3
-unfolding isLeading on-other
+unfolding is-leading on-other
 returns-3 c =
     λ flow. skips-to (c .ended2 .ensures) (c .before .before .before .before .pre .0)
     (gap-ends flow _ Spaced false _ _ (c .before .enum-told2 .given .1) refl refl (c .before .before .before .before .pre .1))
 
 returns-4 : tie.Need-returns-4
-unfolding isLeading on-other
+unfolding is-leading on-other
 returns-4 c =
     λ flow. skips-to (c .ended3 .ensures) (c .before .before .before .before .pre .0)
     (gap-ends flow _ AfterText false _ _ (c .before .enum-told3 .given .1) refl refl (c .before .before .before .before .pre .1))

@@ -5,7 +5,7 @@ use mathlib.Core.Path.{_∙_, _≡_, sym}
 use lib.ListN.{drop, length}
 use borrow.Author.Needs.{needs}
 use Rattle.gaps.specs.Line.{is-low, low-run}
-use Rattle.gaps.specs.Row.{run-over, run-past, run-turn}
+use Rattle.gaps.specs.Row.{row-over, row-past, row-turn}
 use Rattle.gaps.proofs.low_run.Statement.{statement}
 use Rattle.gaps.proofs.low_run.Tie as tie
 
@@ -35,18 +35,18 @@ loop-less c = search needs
 
 loop-again : tie.Need-loop-again Inv-loop μ-loop
 loop-again c =
-    let t = run-turn is-low (now (c .before .before .before .before .before .before .args .text)) (c .before .before .before .before .loop .i)
+    let t = row-turn is-low (now (c .before .before .before .before .before .before .args .text)) (c .before .before .before .before .loop .i)
     (c .before .before .before .loop-test .taken) (sym (c .before .is-low .ensures) ∙ c .if1 .taken) in
     search needs
 
 returns : tie.Need-returns Inv-loop μ-loop
 returns c =
-    let t = run-over is-low (now (c .before .before .before .before .before .before .args .text)) (c .before .before .before .before .loop .i)
+    let t = row-over is-low (now (c .before .before .before .before .before .before .args .text)) (c .before .before .before .before .loop .i)
     (c .before .before .before .loop-test .taken) (sym (c .before .is-low .ensures) ∙ c .if1 .left) in
     search needs
 
 returns-2 : tie.Need-returns-2 Inv-loop μ-loop
-returns-2 c = let t = run-past is-low (now (c .before .before .before .args .text)) (c .before .loop .i) (c .loop-test .left) in search needs
+returns-2 c = let t = row-past is-low (now (c .before .before .before .args .text)) (c .before .loop .i) (c .loop-test .left) in search needs
 
 pub low-run-spec : {M : Type 1} → statement M
 low-run-spec =

@@ -1,3 +1,4 @@
+-- `gaps::past_some_spaces` meets its contract: no byte is passed, or blocks of spaces.
 use borrow.Author.Needs.{needs}
 use Rattle.chars.specs.Each.{each-none}
 use Rattle.gaps.proofs.past_some_spaces.Statement.{statement}

@@ -1,10 +1,11 @@
 -- `gaps::past_space_blocks` meets its contract. The invariant: only spaces were passed.
 use Prim.Native.Nat.{_-_}
+use mathlib.Core.Path.{_∙_, sym}
 use lib.ListN.{length}
 use borrow.Author.Needs.{needs}
 use native.Mathlib.Omega.{arith}
 use Rattle.chars.specs.Each.{Each, each-block, each-none, each-then}
-use Rattle.gaps.specs.Spaces.{is-space}
+use Rattle.chars.specs.Blocks.{is-space}
 use Rattle.gaps.proofs.past_space_blocks.Statement.{statement}
 use Rattle.gaps.proofs.past_space_blocks.Tie as tie
 
@@ -20,23 +21,20 @@ loop-holds c = each-none (c .before .pre)
 add-loop : tie.Need-add-loop Inv-loop μ-loop
 add-loop c = search needs
 
-add-spaces-in : tie.Need-add-spaces-in Inv-loop μ-loop
-add-spaces-in c = search needs
+add-all-of : tie.Need-add-all-of Inv-loop μ-loop
+add-all-of c = search needs
 
-sub-spaces-in : tie.Need-sub-spaces-in Inv-loop μ-loop
-sub-spaces-in c = search needs
+sub-all-of : tie.Need-sub-all-of Inv-loop μ-loop
+sub-all-of c = search needs
 
-part-spaces-in-start : tie.Need-part-spaces-in-start Inv-loop μ-loop
-part-spaces-in-start c = search needs
+part-all-of-start : tie.Need-part-all-of-start Inv-loop μ-loop
+part-all-of-start c = search needs
 
-part-spaces-in-end : tie.Need-part-spaces-in-end Inv-loop μ-loop
-part-spaces-in-end c = search needs
+part-all-of-end : tie.Need-part-all-of-end Inv-loop μ-loop
+part-all-of-end c = search needs
 
-spaces-in-requires : tie.Need-spaces-in-requires Inv-loop μ-loop
-spaces-in-requires c κs = search needs
-
-returns : tie.Need-returns Inv-loop μ-loop
-returns c = c .before .before .before .before .loop .inv
+all-of-requires : tie.Need-all-of-requires Inv-loop μ-loop
+all-of-requires c κs = search needs
 
 add-at : tie.Need-add-at Inv-loop μ-loop
 add-at c = search needs
@@ -46,7 +44,10 @@ loop-less c = search needs
 
 loop-again : tie.Need-loop-again Inv-loop μ-loop
 loop-again c =
-    each-then (c .before .before .before .before .loop .inv) (each-block (c .before .before .before .loop-test .taken) (c .before .spaces-in .ensures) (omega (arith, c .if1 .left)))
+    each-then (c .before .before .before .before .loop .inv) (each-block (omega arith) (c .before .before .before .loop-test .taken) (sym (c .before .all-of .ensures) ∙ c .if1 .taken))
+
+returns : tie.Need-returns Inv-loop μ-loop
+returns c = c .before .before .before .before .loop .inv
 
 returns-2 : tie.Need-returns-2 Inv-loop μ-loop
 returns-2 c = c .before .loop .inv
@@ -59,13 +60,13 @@ past-space-blocks-spec =
     μ-loop
     loop-holds
     add-loop
-    add-spaces-in
-    sub-spaces-in
-    part-spaces-in-start
-    part-spaces-in-end
-    spaces-in-requires
-    returns
+    add-all-of
+    sub-all-of
+    part-all-of-start
+    part-all-of-end
+    all-of-requires
     add-at
     loop-less
     loop-again
+    returns
     returns-2)

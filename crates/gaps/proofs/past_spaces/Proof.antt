@@ -5,8 +5,9 @@ use lib.ListN.{length}
 use borrow.Author.Needs.{needs}
 use borrow.Author.Tests.{eq-eqb}
 use Rattle.yaml_text.specs.Char.{space}
+use Rattle.chars.specs.Blocks.{is-space}
 use Rattle.chars.specs.Each.{Each, each-none, each-one, each-then}
-use Rattle.gaps.specs.Spaces.{is-space, spaces-over, spaces-past}
+use Rattle.gaps.specs.Spaces.{spaces-over, spaces-past}
 use Rattle.gaps.proofs.past_spaces.Statement.{statement}
 use Rattle.gaps.proofs.past_spaces.Tie as tie
 

@@ -9,7 +9,7 @@ use borrow.Author.Needs.{needs}
 use Rattle.yaml_text.specs.Mark.{Run}
 use Rattle.yaml_text.specs.Utf8.{chars}
 use Rattle.chars.specs.declared.mark.Place.{Place}
-use Rattle.chars.specs.Bytes.{CharAt, char-at, none-end, none-ill}
+use Rattle.chars.specs.Bytes.{CharAt, char-at, none-told}
 use Rattle.chars.specs.Places.{small}
 use Rattle.chars.specs.Reach.{reach-one}
 use Rattle.gaps.specs.Line.{line}
@@ -67,30 +67,19 @@ skip-n-non-blank-requires c κs =
 char-at-requires : tie.Need-char-at-requires Inv-loop μ-loop
 char-at-requires c κs = search needs
 
-enum-told : tie.Need-enum-told Inv-loop μ-loop
-enum-told c = search needs
+enum-known-d : tie.Need-enum-known-d Inv-loop μ-loop
+enum-known-d c = search needs
 
 returns : tie.Need-returns Inv-loop μ-loop
 returns c =
-    spans-done (spanned (c .before .before))
-    (end-done _ _ (none-ill (Text (c .before .before)) (Here (c .before .before) .at) (sym (c .before .before .char-at .ensures) ∙ c .enum-told .given .1)))
-
-enum-told-2 : tie.Need-enum-told-2 Inv-loop μ-loop
-enum-told-2 c = search needs
-
-returns-2 : tie.Need-returns-2 Inv-loop μ-loop
-returns-2 c =
-    spans-done (spanned (c .before .before))
-    (end-done _ _ (none-end (Text (c .before .before)) (Here (c .before .before) .at) (sym (c .before .before .char-at .ensures) ∙ c .enum-told2 .given .1)))
-
-enum-known-d : tie.Need-enum-known-d Inv-loop μ-loop
-enum-known-d c = search needs
+    let k = c .before in
+    spans-done (spanned k) (end-done _ _ (none-told (Text k) (Here k .at) (k .char-at .ensures) (c .match .keys2)))
 
 is-break-requires : tie.Need-is-break-requires Inv-loop μ-loop
 is-break-requires c κs = search needs
 
-returns-3 : tie.Need-returns-3 Inv-loop μ-loop
-returns-3 c = spans-done (spanned (at-char (c .before .before))) (line-done _ (char (c .before .before)) (sym (c .before .is-break .ensures) ∙ c .if1 .taken))
+returns-2 : tie.Need-returns-2 Inv-loop μ-loop
+returns-2 c = spans-done (spanned (at-char (c .before .before))) (line-done _ (char (c .before .before)) (sym (c .before .is-break .ensures) ∙ c .if1 .taken))
 
 skip-non-blank-requires : tie.Need-skip-non-blank-requires Inv-loop μ-loop
 skip-non-blank-requires c κs = (small (spanned (at-char (c .before .before)) .walks .stands) (search needs), char (c .before .before) .few)
@@ -113,13 +102,10 @@ run-to-break-spec =
     low-run-requires
     skip-n-non-blank-requires
     char-at-requires
-    enum-told
-    returns
-    enum-told-2
-    returns-2
     enum-known-d
+    returns
     is-break-requires
-    returns-3
+    returns-2
     skip-non-blank-requires
     loop-less
     loop-again)

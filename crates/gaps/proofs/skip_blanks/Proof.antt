@@ -2,7 +2,7 @@
 use denote.Ref.{now}
 use mathlib.Core.Bool.{true}
 use mathlib.Core.Path.{_∙_, _≡_, sym}
-use Rattle.yaml_text.specs.Class.{isBlank}
+use Rattle.yaml_text.specs.Class.{is-blank}
 use Rattle.chars.specs.Bytes.{CharAt, ascii-at, ascii-char}
 use Prim.Native.Nat.{_-_}
 use native.Mathlib.Omega.{arith}
@@ -25,13 +25,13 @@ abbrev μ-loop : tie.MeasureT-loop
 μ-loop text p₀ p = length text - p .at
 
 -- a turn: the byte here is a blank
-abbrev Turn : Type 0
-Turn = tie.Then1 Inv-loop μ-loop
+abbrev Blank : Type 0
+Blank = tie.Then1 Inv-loop μ-loop
 
-blank : (c : Turn) → isBlank (c .before .before .byte .result) ≡ true
+blank : (c : Blank) → is-blank (c .before .before .byte .result) ≡ true
 blank c = sym (c .before .is-blank .ensures) ∙ c .if1 .taken
 
-char : (c : Turn) → CharAt (now (c .before .before .before .before .before .args .text)) (c .before .before .before .loop .p .at) (c .before .before .byte .result) 1
+char : (c : Blank) → CharAt (now (c .before .before .before .before .before .args .text)) (c .before .before .before .loop .p .at) (c .before .before .byte .result) 1
 char c = ascii-char _ _ _ (c .before .before .byte .ensures) blank-ascii (blank c)
 
 loop-holds : tie.Need-loop-holds Inv-loop μ-loop

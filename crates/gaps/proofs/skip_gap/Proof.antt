@@ -9,7 +9,7 @@ use denote.Ref.{now}
 use types.Run.{miss}
 use borrow.Author.Needs.{needs}
 use Rattle.yaml_text.specs.Char.{'#'}
-use Rattle.yaml_text.specs.Class.{isBlank, isBreak}
+use Rattle.yaml_text.specs.Class.{is-blank, is-break}
 use Rattle.yaml_text.specs.Pick.{pick}
 use Rattle.yaml_lexeme.specs.declared.Before.the-variants.{AfterText, Leading}
 use Rattle.chars.specs.declared.mark.Place.{Place}
@@ -46,7 +46,7 @@ Here k = k .before .loop .p
 abbrev Blank : Type 0
 Blank = tie.Then1 Inv-loop μ-loop
 
-blank : (c : Blank) → isBlank (c .before .before .byte .result) ≡ true
+blank : (c : Blank) → is-blank (c .before .before .byte .result) ≡ true
 blank c = sym (c .before .is-blank .ensures) ∙ c .if1 .taken
 
 blank-char : (c : Blank) → CharAt (Text (c .before .before)) (Here (c .before .before) .at) (c .before .before .byte .result) 1
@@ -173,7 +173,7 @@ to-break-requires : tie.Need-to-break-requires Inv-loop μ-loop
 to-break-requires c κs = c .before .before .before .before .before .before .before .loop .inv .0 .stands
 
 loop-less-3 : tie.Need-loop-less-3 Inv-loop μ-loop
-unfolding isBreak
+unfolding is-break
 loop-less-3 c = let w = c .to-break .ensures in omega (arith, line-some (hash-char (c .before .before)) refl w, w .stands .within)
 
 loop-again-3 : tie.Need-loop-again-3 Inv-loop μ-loop

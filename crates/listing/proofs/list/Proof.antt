@@ -1,8 +1,10 @@
+-- The entry's answer is the definition's for these rooms, and what it accepts fits in them, so `put_answer` writes its listing.
 use native.Mathlib.Omega.{arith}
 use denote.Ref.{now}
 use borrow.Author.Needs.{needs}
-use Rattle.lines.specs.Listing.{sheet}
-use Rattle.lines.specs.Rooms.{in-rooms}
+use Rattle.printing.specs.Listing.{sheet}
+use Rattle.printing.specs.Rooms.{in-rooms}
+use Rattle.scanner.specs.Promise.{at-most}
 use Rattle.listing.proofs.Answered.{answered-lines}
 use Rattle.listing.proofs.list.Statement.{statement}
 use Rattle.listing.proofs.list.Tie as tie
@@ -20,6 +22,7 @@ slice-aggregate-put-answer : tie.Need-slice-aggregate-put-answer
 slice-aggregate-put-answer c = search needs
 
 put-answer-requires : tie.Need-put-answer-requires
+unfolding at-most
 put-answer-requires c κs =
     let s = c .before .before .before .before in
     let h = in-rooms sheet (now (s .before .before .before .before .before .args .text)) _ _ (s .scan-with .ensures) .words in
@@ -29,6 +32,7 @@ same-length : tie.Need-same-length
 same-length c = search needs
 
 returns : tie.Need-returns
+unfolding at-most
 returns c =
     let s = c .before .before .before .before .before .before .before in
     let r = s .scan-with in

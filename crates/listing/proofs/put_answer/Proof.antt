@@ -1,3 +1,4 @@
+-- An acceptance is a line with T and D and the lines of its records behind it; a refusal is one line.
 use native.Mathlib.Omega.{arith}
 use denote.Ref.{now}
 use borrow.Author.Needs.{needs}

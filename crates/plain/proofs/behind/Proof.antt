@@ -1,3 +1,7 @@
+-- `plain::behind` meets its contract: the bytes on the way, less those that are no characters of their own, are as many as the characters.
+use Prim.Native.Nat.{_+_, _-_}
+use mathlib.Core.Path.{_∙_, _≡_}
+use native.Mathlib.Omega.{arith}
 use borrow.Author.Needs.{needs}
 use Rattle.plain.proofs.behind.Statement.{statement}
 use Rattle.plain.proofs.behind.Tie as tie
@@ -5,18 +9,20 @@ use Rattle.plain.proofs.behind.Tie as tie
 sub-n : tie.Need-sub-n
 sub-n c = search needs
 
-sub-n-2 : tie.Need-sub-n-2
-sub-n-2 c = search needs
+sub-skip-chars : tie.Need-sub-skip-chars
+sub-skip-chars c = search needs
 
-cast-skip-n-non-blank : tie.Need-cast-skip-n-non-blank
-cast-skip-n-non-blank c = search needs
+cast-skip-chars : tie.Need-cast-skip-chars
+cast-skip-chars c = search needs
 
-skip-n-non-blank-requires : tie.Need-skip-n-non-blank-requires
-skip-n-non-blank-requires c κs = search needs
+skip-chars-requires : tie.Need-skip-chars-requires
+skip-chars-requires c κs = search needs
 
 returns : tie.Need-returns
-returns c = rw (c .before .skip-n-non-blank .ensures)
+returns c =
+    let s = c .before .before in
+    let e : s .args .start .at + (s .args .end - s .args .start .at) ≡ s .args .end = omega (arith, s .pre) in
+    c .skip-chars .ensures ∙ rw e
 
 pub behind-spec : {M : Type 1} → statement M
-behind-spec =
-    tie.close (tie.spec sub-n sub-n-2 cast-skip-n-non-blank skip-n-non-blank-requires returns)
+behind-spec = tie.close (tie.spec sub-n sub-skip-chars cast-skip-chars skip-chars-requires returns)

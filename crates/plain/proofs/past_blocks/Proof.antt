@@ -1,9 +1,11 @@
+-- `plain::past_blocks` meets its contract: the invariant: only ordinary bytes were passed.
 use Prim.Native.Nat.{_-_}
+use mathlib.Core.Path.{_∙_, sym}
 use native.Mathlib.Omega.{arith}
 use lib.ListN.{length}
 use borrow.Author.Needs.{needs}
+use Rattle.chars.specs.Blocks.{ordinary}
 use Rattle.chars.specs.Each.{Each, each-block, each-none, each-then}
-use Rattle.plain.specs.Text.{ordinary}
 use Rattle.plain.proofs.past_blocks.Statement.{statement}
 use Rattle.plain.proofs.past_blocks.Tie as tie
 
@@ -19,23 +21,20 @@ loop-holds c = each-none (c .before .pre)
 add-loop : tie.Need-add-loop Inv-loop μ-loop
 add-loop c = search needs
 
-add-ordinaries : tie.Need-add-ordinaries Inv-loop μ-loop
-add-ordinaries c = search needs
+add-all-of : tie.Need-add-all-of Inv-loop μ-loop
+add-all-of c = search needs
 
-sub-ordinaries : tie.Need-sub-ordinaries Inv-loop μ-loop
-sub-ordinaries c = search needs
+sub-all-of : tie.Need-sub-all-of Inv-loop μ-loop
+sub-all-of c = search needs
 
-part-ordinaries-start : tie.Need-part-ordinaries-start Inv-loop μ-loop
-part-ordinaries-start c = search needs
+part-all-of-start : tie.Need-part-all-of-start Inv-loop μ-loop
+part-all-of-start c = search needs
 
-part-ordinaries-end : tie.Need-part-ordinaries-end Inv-loop μ-loop
-part-ordinaries-end c = search needs
+part-all-of-end : tie.Need-part-all-of-end Inv-loop μ-loop
+part-all-of-end c = search needs
 
-ordinaries-requires : tie.Need-ordinaries-requires Inv-loop μ-loop
-ordinaries-requires c κs = search needs
-
-returns : tie.Need-returns Inv-loop μ-loop
-returns c = c .before .before .before .before .loop .inv
+all-of-requires : tie.Need-all-of-requires Inv-loop μ-loop
+all-of-requires c κs = search needs
 
 add-at : tie.Need-add-at Inv-loop μ-loop
 add-at c = search needs
@@ -44,7 +43,10 @@ loop-less : tie.Need-loop-less Inv-loop μ-loop
 loop-less c = search needs
 
 loop-again : tie.Need-loop-again Inv-loop μ-loop
-loop-again c = each-then (c .before .before .before .before .loop .inv) (each-block (c .before .before .before .loop-test .taken) (c .before .ordinaries .ensures) (omega (arith, c .if1 .left)))
+loop-again c = each-then (c .before .before .before .before .loop .inv) (each-block (omega arith) (c .before .before .before .loop-test .taken) (sym (c .before .all-of .ensures) ∙ c .if1 .taken))
+
+returns : tie.Need-returns Inv-loop μ-loop
+returns c = c .before .before .before .before .loop .inv
 
 returns-2 : tie.Need-returns-2 Inv-loop μ-loop
 returns-2 c = c .before .loop .inv
@@ -57,13 +59,13 @@ past-blocks-spec =
     μ-loop
     loop-holds
     add-loop
-    add-ordinaries
-    sub-ordinaries
-    part-ordinaries-start
-    part-ordinaries-end
-    ordinaries-requires
-    returns
+    add-all-of
+    sub-all-of
+    part-all-of-start
+    part-all-of-end
+    all-of-requires
     add-at
     loop-less
     loop-again
+    returns
     returns-2)

@@ -1,3 +1,4 @@
+-- `plain::text_end` meets its contract: the invariant: the text so far, with what is left of it, is the whole text.
 use Prim.Native.Nat.{_-_}
 use mathlib.Core.Path.{_∙_, sym}
 use native.Mathlib.Omega.{arith}

@@ -1,10 +1,11 @@
+-- `plain::wide_at` meets its contract: a character is as long as its lead byte tells.
 use Prim.Native.Nat.{_<_, ℕ}
 use mathlib.Core.Path.{_∙_, _≡_, ap}
 use native.Mathlib.Omega.{arith}
 use lib.ListN.{getD, length}
 use denote.Ref.{now}
 use borrow.Author.Needs.{needs}
-use Rattle.yaml_text.specs.Utf8.{lenOf, three, two}
+use Rattle.yaml_text.specs.Utf8.{len-of, three, two}
 use Rattle.utf8.proofs.Laws.{case2, case3}
 use Rattle.chars.specs.Bytes.{byte-within}
 use Rattle.plain.proofs.wide_at.Statement.{statement}
@@ -17,8 +18,8 @@ start l = l .before .before
 inside : (l : tie.After-lead-len) → start l .args .at < length (now (start l .args .text))
 inside l = let a = start l .args in byte-within (now (a .text)) (a .at) (a .b) (start l .pre .1) (omega (arith, start l .pre .2))
 
-led : (l : tie.After-lead-len) → l .lead-len .result ≡ lenOf (getD (now (start l .args .text)) (start l .args .at) 0)
-led l = l .lead-len .ensures ∙ ap lenOf (start l .pre .1)
+led : (l : tie.After-lead-len) → l .lead-len .result ≡ len-of (getD (now (start l .args .text)) (start l .args .at) 0)
+led l = l .lead-len .ensures ∙ ap len-of (start l .pre .1)
 
 lead-len-requires : tie.Need-lead-len-requires
 lead-len-requires c κs = search needs

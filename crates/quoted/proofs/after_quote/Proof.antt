@@ -1,3 +1,4 @@
+-- The blanks and comment are read, or refused, as the definition does; then the character behind them is looked at.
 use mathlib.Core.Path.{_∙_, refl}
 use Rattle.quoted.proofs.Finish.{follows-got, follows-stuck, follows-wrong}
 use borrow.Author.Needs.{needs}

@@ -1,3 +1,4 @@
+-- It is the definition, test by test.
 use mathlib.Core.Bool.{or-assoc, or-false}
 use lib.Dec.{eqb}
 use Rattle.yaml_text.specs.Class.{among}

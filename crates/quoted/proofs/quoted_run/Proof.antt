@@ -1,3 +1,4 @@
+-- What is left to write from a turn on is the whole text; each turn reads a byte.
 use Prim.Native.Nat.{_-_}
 use mathlib.Core.Path.{_∙_}
 use native.Mathlib.Omega.{arith}

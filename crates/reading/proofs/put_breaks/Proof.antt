@@ -1,3 +1,4 @@
+-- One store a turn: what is left to store gives the whole.
 use Prim.Native.Nat.{_-_}
 use borrow.Author.Needs.{needs}
 use Rattle.reading.proofs.Laws.{Breaking, breaks-done, breaks-more, breaks-start}

@@ -1,3 +1,4 @@
+-- Each turn goes behind a line, so less of the text is left; all rooms keep their lengths.
 use Prim.Native.Nat.{_-_}
 use mathlib.Core.Path.{_≡_}
 use native.Mathlib.Omega.{arith}
@@ -9,10 +10,10 @@ use Rattle.replay.proofs.replay_all.Statement.{statement}
 use Rattle.replay.proofs.replay_all.Tie as tie
 
 abbrev Inv-loop : tie.InvT-loop
-Inv-loop s words₀ bytes₀ at₀ words bytes at = (length words ≡ length words₀) × (length bytes ≡ length bytes₀)
+Inv-loop s words₀ bytes₀ out₀ at₀ words bytes out at = (length words ≡ length words₀) × (length bytes ≡ length bytes₀) × (length out ≡ length out₀)
 
 abbrev μ-loop : tie.MeasureT-loop
-μ-loop s words₀ bytes₀ at₀ words bytes at = length s - at
+μ-loop s words₀ bytes₀ out₀ at₀ words bytes out at = length s - at
 
 loop-holds : tie.Need-loop-holds Inv-loop μ-loop
 loop-holds c = search needs
@@ -27,16 +28,13 @@ part-replay-line-start : tie.Need-part-replay-line-start Inv-loop μ-loop
 part-replay-line-start c = search needs
 
 part-replay-line-end : tie.Need-part-replay-line-end Inv-loop μ-loop
-part-replay-line-end c = let h = line-within (now (c .before .before .before .before .before .before .args .s)) (c .before .before .loop .at) (omega arith) in omega arith
+part-replay-line-end c = let h = line-within (now (c .before .before .before .before .before .before .before .args .s)) (c .before .before .loop .at) (omega arith) in omega arith
 
 replay-line-requires : tie.Need-replay-line-requires Inv-loop μ-loop
 replay-line-requires c κs = search needs
 
 add-at : tie.Need-add-at Inv-loop μ-loop
-add-at c =
-    let l = c .before .before .before .before .before .before .before .before .before .before in
-    let h = line-within (now (l .before .before .before .before .args .s)) (l .loop .at) (omega arith) in
-    omega arith
+add-at c = let h = line-within (now (c .before .before .before .before .before .before .before .before .before .before .before .before .before .before .before .before .before .before .args .s)) (c .before .before .before .before .before .before .before .before .before .before .before .before .before .loop .at) (omega arith) in omega arith
 
 loop-less : tie.Need-loop-less Inv-loop μ-loop
 loop-less c = search needs
@@ -49,6 +47,9 @@ same-length c = search needs
 
 same-length-2 : tie.Need-same-length-2 Inv-loop μ-loop
 same-length-2 c = search needs
+
+same-length-3 : tie.Need-same-length-3 Inv-loop μ-loop
+same-length-3 c = search needs
 
 returns : tie.Need-returns Inv-loop μ-loop
 returns c = search needs
@@ -70,4 +71,5 @@ replay-all-spec =
     loop-again
     same-length
     same-length-2
+    same-length-3
     returns)

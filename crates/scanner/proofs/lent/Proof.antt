@@ -1,3 +1,4 @@
+-- The tests are the definition's, in its order; where both pass, the pass and the clearing leave what it says.
 use denote.Ref.{now}
 use native.Mathlib.Omega.{arith}
 use borrow.Author.Needs.{needs}

@@ -1,3 +1,4 @@
+-- The order is the definition's: length, validity, run; before the run nothing is stored.
 use denote.Ref.{now}
 use borrow.Author.Needs.{needs}
 use Rattle.scanner.proofs.Filled.{invalid, too-long, valid}
@@ -12,7 +13,7 @@ outside-requires : tie.Need-outside-requires
 outside-requires c κs = search needs
 
 returns : tie.Need-returns
-returns c = let a = c .before .before .before .before .before .before .args in too-long (a .limits) (now (a .text)) (c .outside .ensures) (c .before .if1 .taken)
+returns c = let a = c .before .before .before .before .before .before .args in too-long (a .limits) (now (a .text)) (now (a .words)) (now (a .bytes)) (c .outside .ensures) (c .before .if1 .taken)
 
 check-text-requires : tie.Need-check-text-requires
 check-text-requires c κs = search needs
@@ -24,7 +25,7 @@ returns-2 : tie.Need-returns-2
 returns-2 c =
     let k = c .before .before .before .before in
     let a = start k .args in
-    invalid (a .limits) (now (a .text)) (k .if1 .left) (rw (c .before .c .given .1) at (c .before .before .before .check-text .ensures))
+    invalid (a .limits) (now (a .text)) (k .if1 .left) (now (a .words)) (now (a .bytes)) (rw (c .before .c .given .1) at (c .before .before .before .check-text .ensures))
 
 enum-told : tie.Need-enum-told
 enum-told c = search needs

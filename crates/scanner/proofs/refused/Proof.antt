@@ -1,3 +1,4 @@
+-- Clearing from 0 leaves zeros only.
 use denote.Ref.{now}
 use borrow.Author.Needs.{needs}
 use Rattle.scanner.proofs.Filled.{blank}

@@ -1,43 +1,14 @@
-use mathlib.Core.Path.{_∙_}
-use denote.Ref.{now}
+-- Capped limits are at most 01's.
 use borrow.Author.Needs.{needs}
-use Rattle.yaml_scan.specs.Scan.{outcome}
-use Rattle.scanner.specs.Run.{Scans, none}
-use Rattle.scanner.proofs.Filled.{answered, settles, stopped-answer}
+use Rattle.scanner.specs.Promise.{capped-modest}
 use Rattle.scanner.proofs.scan_with.Statement.{statement}
 use Rattle.scanner.proofs.scan_with.Tie as tie
 
--- THE PLACES: the outcome is known; the text was scanned
-abbrev start : tie.After-outcome → tie.Start
-start f = f .before .before .before .before .before .before
+capped-requires : tie.Need-capped-requires
+capped-requires c κs = search needs
 
-abbrev known : tie.After-known-told2 → tie.After-outcome
-known k = k .before .before .before .before .before .before .before
-
-scanned : (k : tie.After-known-told2)
-    → let f = known k in
-    let a = start f .args in
-    let l = f .outcome .last .1 .1 in
-    Scans (outcome (a .limits) (now (a .text))) none (k .before .o2 .given .0 .0) (now (a .words)) (now (a .bytes)) (l .0) (l .1 .0)
-scanned k = rw (k .before .o2 .given .1) at (k .before .before .before .before .before .before .before .outcome .ensures)
-
-outcome-requires : tie.Need-outcome-requires
-outcome-requires c κs = search needs
-
-enum-known-o : tie.Need-enum-known-o
-enum-known-o c = search needs
-
-refused-requires : tie.Need-refused-requires
-refused-requires c κs = search needs
-
-enum-known-o-2 : tie.Need-enum-known-o-2
-enum-known-o-2 c = search needs
-
-lent-requires : tie.Need-lent-requires
-lent-requires c κs =
-    let k = c .before .before in
-    let a = start (known k) .args in
-    settles (a .limits) (now (a .text)) (scanned k) (known k .outcome .kept .1 .1 .0)
+scan-within-requires : tie.Need-scan-within-requires
+scan-within-requires c κs = rw (c .before .before .capped .ensures) (capped-modest _)
 
 same-length : tie.Need-same-length
 same-length c = search needs
@@ -46,37 +17,8 @@ same-length-2 : tie.Need-same-length-2
 same-length-2 c = search needs
 
 returns : tie.Need-returns
-returns c =
-    let f = c .before .before .before .before .before .before .before .before .before .before .before .before .before .before in
-    let a = start f .args in
-    let kept = f .outcome .kept .1 .1 in
-    stopped-answer (a .limits) (now (a .text)) (rw (c .before .before .before .before .before .before .before .before .o .given .1) at (f .outcome .ensures)) (kept .0) (kept .1 .0) (c .before .before .before .before .refused .ensures)
-
-same-length-3 : tie.Need-same-length-3
-same-length-3 c = search needs
-
-same-length-4 : tie.Need-same-length-4
-same-length-4 c = search needs
-
-returns-2 : tie.Need-returns-2
-returns-2 c =
-    let k = c .before .before .before .before .before .before .before in
-    let a = start (known k) .args in
-    let kept = known k .outcome .kept .1 .1 in
-    c .before .before .before .before .lent .ensures ∙ answered (a .limits) (now (a .text)) (scanned k) (kept .0) (kept .1 .0)
+returns c = rw (c .before .before .before .before .before .before .before .capped .ensures) at (c .before .before .before .before .scan-within .ensures)
 
 pub scan-with-spec : {M : Type 1} → statement M
 scan-with-spec =
-    tie.close
-    (tie.spec
-    outcome-requires
-    enum-known-o
-    refused-requires
-    enum-known-o-2
-    lent-requires
-    same-length
-    same-length-2
-    returns
-    same-length-3
-    same-length-4
-    returns-2)
+    tie.close (tie.spec capped-requires scan-within-requires same-length same-length-2 returns)

@@ -1,8 +1,9 @@
+-- The ends, the empty token and the token are stored one behind the other, and a brief event has no note.
 use native.Mathlib.Omega.{arith}
 use denote.Ref.{now}
 use borrow.Author.Needs.{needs}
-use Rattle.news.specs.declared.Opening.the-variants as opening
-use Rattle.states.specs.Laid.{opening-if}
+use Rattle.events.specs.declared.Opening.the-variants as opening
+use Rattle.events.specs.Event.{opening-if}
 use Rattle.sink.proofs.Storing.{brief-put, opens-few}
 use Rattle.sink.proofs.put_brief.Statement.{statement}
 use Rattle.sink.proofs.put_brief.Tie as tie

@@ -1,10 +1,11 @@
+-- BlockEnds are stored one by one: those that are left give the whole.
 use Prim.Native.Nat.{_-_, _≤_}
 use mathlib.Core.Path.{_∙_, _≡_, refl, sym}
 use native.Mathlib.Omega.{arith}
 use lib.ListN.{length}
 use borrow.Author.Needs.{needs}
-use Rattle.sink.specs.Tokens.{end-tokens}
-use Rattle.sink.specs.Put.{put-list}
+use Rattle.sink.specs.StepTokens.{end-tokens}
+use Rattle.sink.specs.Store.{put-list}
 use Rattle.sink.proofs.Storing.{ends-more, ends-none, ends-start}
 use Rattle.sink.proofs.put_ends.Statement.{statement}
 use Rattle.sink.proofs.put_ends.Tie as tie

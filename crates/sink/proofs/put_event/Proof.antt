@@ -1,3 +1,4 @@
+-- The ends, the empty token and the token are stored one behind the other.
 use native.Mathlib.Omega.{arith}
 use denote.Ref.{now}
 use borrow.Author.Needs.{needs}

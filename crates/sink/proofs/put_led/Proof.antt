@@ -1,7 +1,8 @@
+-- Where the test fails there is no token to store.
 use denote.Ref.{now}
 use borrow.Author.Needs.{needs}
-use Rattle.states.specs.Laid.{opening-if}
-use Rattle.sink.specs.Tokens.{opening-tokens}
+use Rattle.events.specs.Event.{opening-if}
+use Rattle.sink.specs.StepTokens.{opening-tokens}
 use Rattle.sink.proofs.Storing.{opening-none}
 use Rattle.sink.proofs.put_led.Statement.{statement}
 use Rattle.sink.proofs.put_led.Tie as tie

@@ -1,3 +1,4 @@
+-- The ends come first, then the note, then the tokens of the event behind the ends.
 use denote.Ref.{now}
 use borrow.Author.Needs.{needs}
 use Rattle.sink.proofs.Storing.{news-put}

@@ -1,9 +1,10 @@
+-- Each opening is one empty token or none.
 use mathlib.Core.Path.{_≡_, ap}
 use denote.Ref.{now}
 use borrow.Author.Needs.{needs}
 use Rattle.yaml_text.specs.declared.Mark.{Mark}
-use Rattle.news.specs.declared.Opening.{Opening}
-use Rattle.sink.specs.Tokens.{opening-tokens}
+use Rattle.events.specs.declared.Opening.{Opening}
+use Rattle.sink.specs.StepTokens.{opening-tokens}
 use Rattle.sink.proofs.Storing.{opening-none, opening-one}
 use Rattle.sink.proofs.put_opening.Statement.{statement}
 use Rattle.sink.proofs.put_opening.Tie as tie

@@ -1,7 +1,8 @@
+-- A slot that is whole gets the record, and another stays as it is.
 use mathlib.Core.Path.{_∙_, sym}
 use denote.Ref.{now}
 use borrow.Author.Needs.{needs}
-use Rattle.sink.specs.Put.{put-record-in, put-record-out}
+use Rattle.sink.specs.Store.{put-record-in, put-record-out}
 use Rattle.sink.proofs.put_record.Statement.{statement}
 use Rattle.sink.proofs.put_record.Tie as tie
 

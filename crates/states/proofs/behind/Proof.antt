@@ -1,3 +1,4 @@
+-- The bytes are added, and the mark put together anew is the same.
 use borrow.Author.Needs.{needs}
 use Rattle.states.proofs.behind.Statement.{statement}
 use Rattle.states.proofs.behind.Tie as tie

@@ -1,3 +1,4 @@
+-- Its three calls give the event, the place and the state of the definition.
 use borrow.Author.Needs.{needs}
 use Rattle.states.proofs.emit_lexeme.Statement.{statement}
 use Rattle.states.proofs.emit_lexeme.Tie as tie

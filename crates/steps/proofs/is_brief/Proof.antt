@@ -1,5 +1,6 @@
+-- The five that are brief are named; the last arm takes no other.
 use borrow.Author.Needs.{needs}
-use Rattle.steps.proofs.Content.{not-brief}
+use Rattle.steps.proofs.Last.{not-brief}
 use Rattle.steps.proofs.is_brief.Statement.{statement}
 use Rattle.steps.proofs.is_brief.Tie as tie
 

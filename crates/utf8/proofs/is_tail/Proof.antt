@@ -1,16 +1,16 @@
 -- `utf8::is_tail` meets its contract, test by test.
 use borrow.Author.Needs.{needs}
-use Rattle.yaml_text.specs.Utf8.{isTail}
+use Rattle.yaml_text.specs.Utf8.{is-tail}
 use Rattle.utf8.proofs.Cases.{cases}
 use Rattle.utf8.proofs.is_tail.Statement.{statement}
 use Rattle.utf8.proofs.is_tail.Tie as tie
 
 returns : tie.Need-returns
-unfolding isTail
+unfolding is-tail
 returns c = search (needs, cases)
 
 returns-2 : tie.Need-returns-2
-unfolding isTail
+unfolding is-tail
 returns-2 c = search (needs, cases)
 
 pub is-tail-spec : {M : Type 1} → statement M

@@ -4,34 +4,34 @@ use mathlib.Core.Bool.{Bool}
 use mathlib.Core.Path.{_∙_, _≡_, ap, refl, sym}
 use lib.Count.{leadingZeros}
 use lib.Dec.{eqb, eqb→eq}
-use Rattle.yaml_text.specs.Utf8.{lenOf}
+use Rattle.yaml_text.specs.Utf8.{len-of}
 use Rattle.utf8.proofs.Below.{below}
 use Rattle.utf8.proofs.lead_len.Statement.{statement}
 use Rattle.utf8.proofs.lead_len.Tie as tie
 
 -- the length by the count of leading ones
-abbrev byOnes : ℕ → ℕ
-byOnes zero = 1
-byOnes (suc zero) = 0
-byOnes (suc (suc zero)) = 2
-byOnes (suc (suc (suc zero))) = 3
-byOnes (suc (suc (suc (suc zero)))) = 4
-byOnes (suc (suc (suc (suc (suc n))))) = 0
+abbrev len-by-ones : ℕ → ℕ
+len-by-ones zero = 1
+len-by-ones (suc zero) = 0
+len-by-ones (suc (suc zero)) = 2
+len-by-ones (suc (suc (suc zero))) = 3
+len-by-ones (suc (suc (suc (suc zero)))) = 4
+len-by-ones (suc (suc (suc (suc (suc n))))) = 0
 
 abbrev ones : ℕ → ℕ
 ones b = leadingZeros 8 (255 - b)
 
 test : ℕ → Bool
-test b = eqb (byOnes (ones b)) (lenOf b)
+test b = eqb (len-by-ones (ones b)) (len-of b)
 
-by-ones : (b : ℕ) → b < 256 → byOnes (ones b) ≡ lenOf b
-unfolding test leadingZeros lenOf
-by-ones b h = eqb→eq (byOnes (ones b)) (lenOf b) (below 256 test tt b h)
+by-ones : (b : ℕ) → b < 256 → len-by-ones (ones b) ≡ len-of b
+unfolding test leadingZeros len-of
+by-ones b h = eqb→eq (len-by-ones (ones b)) (len-of b) (below 256 test tt b h)
 
-told : (b n : ℕ) → b < 256 → ones b ≡ n → byOnes n ≡ lenOf b
-told b n h e = ap byOnes (sym e) ∙ by-ones b h
+told : (b n : ℕ) → b < 256 → ones b ≡ n → len-by-ones n ≡ len-of b
+told b n h e = ap len-by-ones (sym e) ∙ by-ones b h
 
-other : (n : ℕ) → (n ≡ 0 → ⊥) → (n ≡ 2 → ⊥) → (n ≡ 3 → ⊥) → (n ≡ 4 → ⊥) → 0 ≡ byOnes n
+other : (n : ℕ) → (n ≡ 0 → ⊥) → (n ≡ 2 → ⊥) → (n ≡ 3 → ⊥) → (n ≡ 4 → ⊥) → 0 ≡ len-by-ones n
 other zero a b c d = absurd (a refl)
 other (suc zero) a b c d = refl
 other (suc (suc zero)) a b c d = absurd (b refl)

@@ -2,11 +2,11 @@
 use mathlib.Core.Bool.{true}
 use mathlib.Core.Path.{_∙_, _≡_, sym}
 use borrow.Author.Needs.{needs}
-use Rattle.yaml_text.specs.Utf8.{isTail, two}
+use Rattle.yaml_text.specs.Utf8.{is-tail, two}
 use Rattle.utf8.proofs.two_bytes.Statement.{statement}
 use Rattle.utf8.proofs.two_bytes.Tie as tie
 
-tail-b : (c : tie.Then1) → isTail (c .before .before .args .b) ≡ true
+tail-b : (c : tie.Then1) → is-tail (c .before .before .args .b) ≡ true
 tail-b c = sym (c .before .is-tail .ensures) ∙ c .if1 .taken
 
 mul-v : tie.Need-mul-v

@@ -1,7 +1,7 @@
 -- `validity::check_text` meets its contract: a sound text passes, and of any other the second pass tells.
 use mathlib.Core.Path.{_∙_, sym}
 use borrow.Author.Needs.{needs}
-use Rattle.validity.proofs.Passing.{passes-sound}
+use Rattle.validity.proofs.Soundness.{passes-sound}
 use Rattle.validity.proofs.check_text.Statement.{statement}
 use Rattle.validity.proofs.check_text.Tie as tie
 

@@ -1,56 +1,70 @@
 -- `validity::first_refusal` meets its contract. The invariant: what is left, from the mark here, is refused as the whole is.
-use Prim.Native.Nat.{_+_, _-_, _≤_, ℕ}
+use Prim.Native.Nat.{_-_, ℕ}
 use mathlib.Core.List.{List}
-use mathlib.Core.Path.{_∙_, _≡_, sym}
+use mathlib.Core.Path.{_∙_, sym}
 use native.Mathlib.Omega.{arith}
 use lib.ListN.{drop, length}
 use denote.Ref.{now}
 use borrow.Author.Needs.{needs}
-use Rattle.yaml_text.specs.declared.Decoded.the-variants.{Char}
-use Rattle.yaml_text.specs.Utf8.{first}
-use Rattle.validity.proofs.Turns.{some-left, turn-none, turn-nul}
-use Rattle.validity.proofs.Near.{Near, near-end, near-more, near-start}
+use Rattle.chars.specs.Bytes.{CharAt, char-at}
+use Rattle.chars.specs.Lines.{break-few}
+use Rattle.chars.specs.Places.{small}
+use Rattle.validity.proofs.DecodeTurns.{some-left, turn-none, turn-nul}
+use Rattle.validity.proofs.Near.{Near, near-break, near-char, near-end, near-start}
 use Rattle.validity.proofs.first_refusal.Statement.{statement}
 use Rattle.validity.proofs.first_refusal.Tie as tie
 
 abbrev Inv-loop : tie.InvT-loop
-Inv-loop s m₀ at₀ m at = Near s at m
+Inv-loop s p₀ p = Near s p
 
 abbrev μ-loop : tie.MeasureT-loop
-μ-loop s m₀ at₀ m at = length s - at
+μ-loop s p₀ p = length s - p .at
 
--- the places: the loop's head, and where a character was found
+-- the places: the loop's head, where a break was looked for, and where a character was found
 abbrev L : Type 0
 L = tie.At-loop Inv-loop μ-loop
 
 abbrev S : L → List ℕ
-S l = now (l .before .before .args .s)
+S l = now (l .before .before .before .args .s)
+
+abbrev B : Type 0
+B = tie.After-break-length Inv-loop μ-loop
+
+abbrev looked : B → L
+looked b = b .before .before .before
 
 abbrev K : Type 0
 K = tie.After-known-told Inv-loop μ-loop
 
+abbrev broken : K → B
+broken k = k .before .before .before .before .before
+
 abbrev head : K → L
-head k = k .before .before .before .before .before
+head k = looked (broken k)
 
-abbrev Code : K → ℕ
-Code k = k .before .d .given .0 .0
+char : (k : K) → CharAt (S (head k)) (head k .loop .p .at) (k .before .d .given .0 .0) (k .before .d .given .0 .1 .0)
+char k = char-at _ _ _ _ (sym (k .before .before .before .char-at .ensures) ∙ k .before .d .given .1)
 
-abbrev Len : K → ℕ
-Len k = k .before .d .given .0 .1 .0
-
-is : (k : K) → first (drop (head k .loop .at) (S (head k))) ≡ Char (Code k) (Len k)
-is k = sym (k .before .before .before .char-at .ensures) ∙ k .before .d .given .1
-
--- at the turn's end
-onward : (c : tie.After-over-char Inv-loop μ-loop)
-    → let k = c .before .before .before in Near (S (head k)) (head k .loop .at + Len k) (c .over-char .result) × (1 ≤ Len k)
-onward c =
-    let k = c .before .before .before in
-    near-more (c .over-char .result) (Code k) (Len k) (c .before .byte .result) (head k .loop .inv) (is k) (c .before .before .if1 .left)
-    (c .before .byte .ensures) (c .over-char .ensures)
+start-requires : tie.Need-start-requires Inv-loop μ-loop
+start-requires c κs = search needs
 
 loop-holds : tie.Need-loop-holds Inv-loop μ-loop
-loop-holds c = near-start (now (c .before .args .s))
+loop-holds c = rw (c .start .ensures) (near-start _ (c .before .before .pre))
+
+break-length-requires : tie.Need-break-length-requires Inv-loop μ-loop
+break-length-requires c κs = search needs
+
+skip-linebreak-requires : tie.Need-skip-linebreak-requires Inv-loop μ-loop
+skip-linebreak-requires c κs =
+    (small (looked (c .before) .loop .inv .stands) (search needs), rw (c .before .break-length .ensures) (break-few _))
+
+loop-less : tie.Need-loop-less Inv-loop μ-loop
+loop-less c = let z = c .before .if2 .taken in rw (c .skip-linebreak .ensures) (omega (arith, c .before .before .before .if1 .taken))
+
+loop-again : tie.Need-loop-again Inv-loop μ-loop
+loop-again c =
+    let b = c .before .before in
+    rw (c .skip-linebreak .ensures) (near-break (b .break-length .result) (looked b .loop .inv) (b .break-length .ensures) (c .before .if2 .taken))
 
 char-at-requires : tie.Need-char-at-requires Inv-loop μ-loop
 char-at-requires c κs = search needs
@@ -63,9 +77,10 @@ refused-requires c κs = search needs
 
 returns : tie.Need-returns Inv-loop μ-loop
 returns c =
-    let l = c .before .before .before .before in
+    let b = c .before .before .before .before in
+    let l = looked b in
     c .refused .ensures
-    ∙ turn-none (l .loop .m) (drop (l .loop .at) (S l)) (c .before .before .char-at .result) (some-left (S l) (l .loop .at) (c .before .before .before .loop-test .taken)) (c .before .before .char-at .ensures) (c .before .match .keys2)
+    ∙ turn-none (l .loop .p .mark) (drop (l .loop .p .at) (S l)) (c .before .before .char-at .result) (some-left (S l) (l .loop .p .at) (b .before .if1 .taken)) (c .before .before .char-at .ensures) (c .before .match .keys2)
     ∙ l .loop .inv .same
 
 refused-requires-2 : tie.Need-refused-requires-2 Inv-loop μ-loop
@@ -74,28 +89,22 @@ refused-requires-2 c κs = search needs
 returns-2 : tie.Need-returns-2 Inv-loop μ-loop
 returns-2 c =
     let k = c .before .before in
-    c .refused2 .ensures ∙ turn-nul (head k .loop .m) _ (Code k) (Len k) (is k) (c .before .if1 .taken) ∙ head k .loop .inv .same
+    let l = head k in
+    c .refused2 .ensures ∙ turn-nul (l .loop .p .mark) _ _ _ (char k .is) (c .before .if3 .taken) ∙ l .loop .inv .same
 
-add-byte : tie.Need-add-byte Inv-loop μ-loop
-add-byte c = let l = head (c .before) in omega (arith, l .loop .inv, l .before)
+skip-non-blank-requires : tie.Need-skip-non-blank-requires Inv-loop μ-loop
+skip-non-blank-requires c κs = (small (head (c .before) .loop .inv .stands) (search needs), char (c .before) .few)
 
-byte-requires : tie.Need-byte-requires Inv-loop μ-loop
-byte-requires c κs = search needs
+loop-less-2 : tie.Need-loop-less-2 Inv-loop μ-loop
+loop-less-2 c = rw (c .skip-non-blank .ensures) (omega (arith, char (c .before .before)))
 
-over-char-requires : tie.Need-over-char-requires Inv-loop μ-loop
-over-char-requires c κs = let l = head (c .before .before) in omega (arith, l .loop .inv, l .before .before .pre)
-
-add-at : tie.Need-add-at Inv-loop μ-loop
-add-at c = let w = onward c .0 in omega (arith, w .within, head (c .before .before .before) .before)
-
-loop-less : tie.Need-loop-less Inv-loop μ-loop
-loop-less c = omega (arith, onward c)
-
-loop-again : tie.Need-loop-again Inv-loop μ-loop
-loop-again c = onward c .0
+loop-again-2 : tie.Need-loop-again-2 Inv-loop μ-loop
+loop-again-2 c =
+    let k = c .before .before in
+    rw (c .skip-non-blank .ensures) (near-char (head k .loop .inv) (sym (broken k .break-length .ensures) ∙ k .before .before .before .before .if2 .left) (char k) (c .before .if3 .left))
 
 returns-3 : tie.Need-returns-3 Inv-loop μ-loop
-returns-3 c = near-end (c .before .loop .inv) (c .loop-test .left)
+returns-3 c = near-end (c .before .before .loop .inv) (c .if1 .left)
 
 pub first-refusal-spec : {M : Type 1} → statement M
 first-refusal-spec =
@@ -103,17 +112,19 @@ first-refusal-spec =
     (tie.spec
     Inv-loop
     μ-loop
+    start-requires
     loop-holds
+    break-length-requires
+    skip-linebreak-requires
+    loop-less
+    loop-again
     char-at-requires
     enum-known-d
     refused-requires
     returns
     refused-requires-2
     returns-2
-    add-byte
-    byte-requires
-    over-char-requires
-    add-at
-    loop-less
-    loop-again
+    skip-non-blank-requires
+    loop-less-2
+    loop-again-2
     returns-3)

@@ -7,8 +7,8 @@ use lib.ListN.{drop, length}
 use denote.Ref.{now}
 use borrow.Author.Needs.{needs}
 use Rattle.validity.specs.Sound.{sound}
-use Rattle.validity.proofs.Turns.{some-left}
-use Rattle.validity.proofs.Passing.{Next, next, sound-stop}
+use Rattle.validity.proofs.DecodeTurns.{some-left}
+use Rattle.validity.proofs.Soundness.{Next, next, sound-stop}
 use Rattle.validity.proofs.go_slow.Statement.{statement}
 use Rattle.validity.proofs.go_slow.Tie as tie
 

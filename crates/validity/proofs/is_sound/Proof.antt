@@ -7,8 +7,9 @@ use lib.ListN.{drop, length}
 use denote.Ref.{now}
 use borrow.Author.Needs.{needs}
 use Rattle.validity.specs.Sound.{sound}
-use Rattle.validity.proofs.Passing.{sound-past}
-use Rattle.validity.proofs.Blocks.{next-block}
+use Rattle.validity.proofs.Soundness.{sound-past}
+use Rattle.chars.specs.Each.{each-block}
+use Rattle.validity.proofs.Blocks.{sound-block}
 use Rattle.validity.proofs.is_sound.Statement.{statement}
 use Rattle.validity.proofs.is_sound.Tie as tie
 
@@ -40,17 +41,17 @@ loop-holds c = (search needs, refl)
 block-end-requires : tie.Need-block-end-requires Inv-loop μ-loop
 block-end-requires c κs = search needs
 
-sub-all-plain : tie.Need-sub-all-plain Inv-loop μ-loop
-sub-all-plain c = search needs
+sub-all-of : tie.Need-sub-all-of Inv-loop μ-loop
+sub-all-of c = search needs
 
-part-all-plain-start : tie.Need-part-all-plain-start Inv-loop μ-loop
-part-all-plain-start c = search needs
+part-all-of-start : tie.Need-part-all-of-start Inv-loop μ-loop
+part-all-of-start c = search needs
 
-part-all-plain-end : tie.Need-part-all-plain-end Inv-loop μ-loop
-part-all-plain-end c = search needs
+part-all-of-end : tie.Need-part-all-of-end Inv-loop μ-loop
+part-all-of-end c = search needs
 
-all-plain-requires : tie.Need-all-plain-requires Inv-loop μ-loop
-all-plain-requires c κs = search needs
+all-of-requires : tie.Need-all-of-requires Inv-loop μ-loop
+all-of-requires c κs = search needs
 
 loop-less : tie.Need-loop-less Inv-loop μ-loop
 loop-less c = search needs
@@ -59,7 +60,7 @@ loop-again : tie.Need-loop-again Inv-loop μ-loop
 loop-again c =
     let b = c .before .before .before in
     let l = b .before .before in
-    (search needs, l .loop .inv .1 ∙ next-block (S l) (l .loop .at) (b .block-end .result) (b .block-end .ensures .0) (b .block-end .ensures .1) (sym (c .before .all-plain .ensures) ∙ c .if1 .taken))
+    (search needs, l .loop .inv .1 ∙ sound-block (each-block (omega (arith, b .block-end .ensures)) (b .block-end .ensures .1) (sym (c .before .all-of .ensures) ∙ c .if1 .taken)))
 
 go-slow-requires : tie.Need-go-slow-requires Inv-loop μ-loop
 go-slow-requires c κs = search needs
@@ -88,10 +89,10 @@ is-sound-spec =
     μ-loop
     loop-holds
     block-end-requires
-    sub-all-plain
-    part-all-plain-start
-    part-all-plain-end
-    all-plain-requires
+    sub-all-of
+    part-all-of-start
+    part-all-of-end
+    all-of-requires
     loop-less
     loop-again
     go-slow-requires

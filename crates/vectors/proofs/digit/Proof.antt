@@ -1,3 +1,4 @@
+-- Each range of bytes has its own case in the definition.
 use native.Mathlib.Omega.{arith}
 use borrow.Author.Needs.{needs}
 use borrow.Author.Tests.{le-leb, lt-leb}

@@ -1,3 +1,4 @@
+-- Where the line ends stays the same while bytes that are no line feed are passed.
 use Prim.Native.Nat.{_+_, _-_}
 use mathlib.Core.Path.{_≡_, refl}
 use native.Mathlib.Omega.{arith}

@@ -1,3 +1,4 @@
+-- A turn reads two digits and stores their byte; what is left of the line gives the rest.
 use Prim.Native.Nat.{_-_}
 use native.Mathlib.Omega.{arith}
 use lib.ListN.{length}

@@ -1,6 +1,6 @@
 -- `chars::class::is_blank_or_breakz` meets its contract: it is the definition, test by test.
 use borrow.Author.Needs.{needs}
-use Rattle.yaml_text.specs.Class.{isBlankOrBreakz}
+use Rattle.yaml_text.specs.Class.{is-blank-or-breakz}
 use Rattle.chars.proofs.class.is_blank_or_breakz.Statement.{statement}
 use Rattle.chars.proofs.class.is_blank_or_breakz.Tie as tie
 
@@ -11,7 +11,7 @@ is-breakz-requires : tie.Need-is-breakz-requires
 is-breakz-requires c κs = search needs
 
 returns : tie.Need-returns
-unfolding isBlankOrBreakz
+unfolding is-blank-or-breakz
 returns c = cc
 
 pub is-blank-or-breakz-spec : {M : Type 1} → statement M

@@ -1,6 +1,6 @@
 -- `chars::class::is_breakz` meets its contract: it is the definition, test by test.
 use borrow.Author.Needs.{needs}
-use Rattle.yaml_text.specs.Class.{isBreakz}
+use Rattle.yaml_text.specs.Class.{is-breakz}
 use Rattle.chars.proofs.class.is_breakz.Statement.{statement}
 use Rattle.chars.proofs.class.is_breakz.Tie as tie
 
@@ -11,7 +11,7 @@ is-z-requires : tie.Need-is-z-requires
 is-z-requires c κs = search needs
 
 returns : tie.Need-returns
-unfolding isBreakz
+unfolding is-breakz
 returns c = cc
 
 pub is-breakz-spec : {M : Type 1} → statement M

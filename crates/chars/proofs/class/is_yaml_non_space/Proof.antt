@@ -1,6 +1,6 @@
 -- `chars::class::is_yaml_non_space` meets its contract: it is the definition, test by test.
 use borrow.Author.Needs.{needs}
-use Rattle.yaml_text.specs.Class.{isNonSpace}
+use Rattle.yaml_text.specs.Class.{is-non-space}
 use Rattle.chars.proofs.class.is_yaml_non_space.Statement.{statement}
 use Rattle.chars.proofs.class.is_yaml_non_space.Tie as tie
 
@@ -11,7 +11,7 @@ is-bom-requires : tie.Need-is-bom-requires
 is-bom-requires c κs = search needs
 
 returns : tie.Need-returns
-unfolding isNonSpace
+unfolding is-non-space
 returns c = cc
 
 pub is-yaml-non-space-spec : {M : Type 1} → statement M

@@ -1,11 +1,12 @@
+-- In flow nothing ends; outside it the unrolling is to the column.
 use denote.Ref.{now}
 use borrow.Author.Needs.{needs}
-use Rattle.choices.proofs.Arrive.{ebbs, ebbs-not}
+use Rattle.choices.proofs.NextToken.{unrolls-here, unrolls-none}
 use Rattle.choices.proofs.advance.unrolled.Statement.{statement}
 use Rattle.choices.proofs.advance.unrolled.Tie as tie
 
 returns : tie.Need-returns
-returns c = let a = c .before .before .before .before .args in ebbs-not (now (a .entries)) (a .s) (c .if1 .taken)
+returns c = let a = c .before .before .before .before .args in unrolls-none (now (a .stacks)) (a .s) (c .if1 .taken)
 
 add-unroll : tie.Need-add-unroll
 add-unroll c = search needs
@@ -14,7 +15,9 @@ unroll-requires : tie.Need-unroll-requires
 unroll-requires c κs = search needs
 
 returns-2 : tie.Need-returns-2
-returns-2 c = let a = c .before .before .before .before .before .before .args in ebbs (now (a .entries)) (a .s) (c .before .before .if1 .left) (c .unroll .ensures)
+returns-2 c =
+    let a = c .before .before .before .before .before .before .args in
+    unrolls-here (now (a .stacks)) (a .s) (c .before .before .if1 .left) (c .unroll .ensures)
 
 pub unrolled-spec : {M : Type 1} → statement M
 unrolled-spec = tie.close (tie.spec returns add-unroll unroll-requires returns-2)

@@ -1,3 +1,4 @@
+-- The tests stand in the definition's order; each return is the law of its test.
 use mathlib.Core.Path.{_∙_, sym}
 use denote.Ref.{now}
 use borrow.Author.Needs.{needs}

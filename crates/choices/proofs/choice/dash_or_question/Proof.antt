@@ -1,3 +1,4 @@
+-- The two tests are those of the definition.
 use borrow.Author.Needs.{needs}
 use Rattle.choices.specs.Choice.{dash-or-question}
 use Rattle.choices.proofs.choice.dash_or_question.Statement.{statement}

@@ -1,3 +1,4 @@
+-- By the test.
 use Rattle.choices.proofs.choice.pick.Statement.{statement}
 use Rattle.choices.proofs.choice.pick.Tie as tie
 

@@ -1,6 +1,7 @@
+-- The character behind the colon decides, as the definition has it.
 use borrow.Author.Needs.{needs}
 use Rattle.choices.specs.Choice.{colon-before}
-use Rattle.choices.proofs.Laws.{says-colon}
+use Rattle.choices.proofs.Laws.{colon-defined}
 use Rattle.choices.proofs.choice.takes_colon.Statement.{statement}
 use Rattle.choices.proofs.choice.takes_colon.Tie as tie
 
@@ -22,7 +23,7 @@ add-result c = search needs
 returns : tie.Need-returns
 unfolding colon-before
 returns c =
-    says-colon (c .before .before .before .before .before .before .before .before .pre) (c .before .before .before .before .before .look .ensures) (rw (c .before .before .before .before .is-blank-or-breakz .ensures, c .before .before .is-flow .ensures))
+    colon-defined (c .before .before .before .before .before .before .before .before .pre) (c .before .before .before .before .before .look .ensures) (rw (c .before .before .before .before .is-blank-or-breakz .ensures, c .before .before .is-flow .ensures))
 
 pub takes-colon-spec : {M : Type 1} → statement M
 takes-colon-spec =

@@ -1,3 +1,4 @@
+-- A space goes before every word but the first.
 use Rattle.directives.proofs.Joining.{space-none, space-put}
 use borrow.Author.Needs.{needs}
 use Rattle.directives.proofs.reserved.put_space.Statement.{statement}

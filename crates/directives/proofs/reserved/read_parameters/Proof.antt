@@ -1,3 +1,4 @@
+-- What is left to read and write from a word on gives all parameters.
 use Prim.Native.Nat.{_-_}
 use mathlib.Core.Path.{refl}
 use lib.ListN.{length}
@@ -18,14 +19,14 @@ skip-blanks-requires c κs = search needs
 loop-holds : tie.Need-loop-holds Inv-loop μ-loop
 loop-holds c = joining-start _ (c .skip-blanks .ensures)
 
-word-requires : tie.Need-word-requires Inv-loop μ-loop
-word-requires c κs = search needs
+run-of-requires : tie.Need-run-of-requires Inv-loop μ-loop
+run-of-requires c κs = search needs
 
 same-length : tie.Need-same-length Inv-loop μ-loop
 same-length c = search needs
 
 returns : tie.Need-returns Inv-loop μ-loop
-returns c = joining-from (c .before .before .before .skip-blanks .ensures) (joining-done (c .before .before .loop .inv) (c .before .word .ensures) (c .if1 .taken))
+returns c = joining-from (c .before .before .before .skip-blanks .ensures) (joining-done (c .before .before .loop .inv) (c .before .run-of .ensures) (c .if1 .taken))
 
 put-space-requires : tie.Need-put-space-requires Inv-loop μ-loop
 put-space-requires c κs = search needs
@@ -48,7 +49,7 @@ sub-k c = search needs
 add-k : tie.Need-add-k Inv-loop μ-loop
 add-k c =
     let w = c .before .before .before .before .before .before .before .before .before .before in
-    let h = joining-small (w .before .loop .inv) (w .word .ensures) (c .before .before .before .before .before .before .before .put-space .ensures .1) in
+    let h = joining-small (w .before .loop .inv) (w .run-of .ensures) (c .before .before .before .before .before .before .before .put-space .ensures .1) in
     let m = w .before .before .before .before .before .pre .1 in
     search needs
 
@@ -61,7 +62,7 @@ loop-less c = search needs
 loop-again : tie.Need-loop-again Inv-loop μ-loop
 loop-again c =
     let w = c .before .before .before .before .before .before .before .before .before .before .before in
-    joining-more (w .before .loop .inv) (w .word .ensures) (c .before .before .before .before .before .before .before .before .before .before .if1 .left) (c .before .before .before .before .before .before .before .before .put-space .ensures .0) (c .before .before .before .before .before .before .before .before .put-space .ensures .1) (c .before .before .before .copy .ensures) refl
+    joining-more (w .before .loop .inv) (w .run-of .ensures) (c .before .before .before .before .before .before .before .before .before .before .if1 .left) (c .before .before .before .before .before .before .before .before .put-space .ensures .0) (c .before .before .before .before .before .before .before .before .put-space .ensures .1) (c .before .before .before .copy .ensures) refl
     (c .skip-blanks2 .ensures)
 
 pub read-parameters-spec : {M : Type 1} → statement M
@@ -72,7 +73,7 @@ read-parameters-spec =
     μ-loop
     skip-blanks-requires
     loop-holds
-    word-requires
+    run-of-requires
     same-length
     returns
     put-space-requires

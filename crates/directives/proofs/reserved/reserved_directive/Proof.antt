@@ -1,3 +1,4 @@
+-- The name is copied and the parameters written behind it.
 use native.Mathlib.Omega.{arith}
 use Rattle.directives.proofs.ReservedTexts.{joined, reserved-got}
 use borrow.Author.Needs.{needs}
@@ -25,8 +26,8 @@ read-parameters-requires c κs = search needs
 text-at-requires : tie.Need-text-at-requires
 text-at-requires c κs = search needs
 
-word-requires : tie.Need-word-requires
-word-requires c κs = search needs
+as-word-requires : tie.Need-as-word-requires
+as-word-requires c κs = search needs
 
 add-text-at : tie.Need-add-text-at
 add-text-at c = search needs
@@ -46,7 +47,7 @@ same-length c = search needs
 returns : tie.Need-returns
 returns c =
     let k = c .before .before .before .before .before .before .before in
-    reserved-got (k .read-parameters .ensures) (k .before .before .before .before .before .before .before .before .before .pre) (k .before .before .before .before .copy .ensures) (c .before .before .before .before .text-at .ensures) (c .before .before .before .word .ensures) (c .before .text-at2 .ensures) (c .got .ensures)
+    reserved-got (k .read-parameters .ensures) (k .before .before .before .before .before .before .before .before .before .pre) (k .before .before .before .before .copy .ensures) (c .before .before .before .before .text-at .ensures) (c .before .before .before .as-word .ensures) (c .before .text-at2 .ensures) (c .got .ensures)
 
 pub reserved-directive-spec : {M : Type 1} → statement M
 reserved-directive-spec =
@@ -59,7 +60,7 @@ reserved-directive-spec =
     sub-n
     read-parameters-requires
     text-at-requires
-    word-requires
+    as-word-requires
     add-text-at
     sub-text-at
     text-at-requires-2

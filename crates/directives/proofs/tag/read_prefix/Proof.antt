@@ -1,7 +1,9 @@
-use mathlib.Core.Path.{_∙_, refl, sym}
+-- The prefix is written behind the handle; a refusal clears both.
+use mathlib.Core.Path.{_∙_, sym}
 use native.Mathlib.Omega.{arith}
-use Rattle.words.specs.RunLaws.{ran}
-use Rattle.directives.proofs.Prefix.{prefix-ended, prefix-followed, prefix-refused}
+use borrow.Author.Tests.{not-false, not-true}
+use Rattle.runs.specs.RunLaws.{ran}
+use Rattle.directives.proofs.Prefix.{prefix-bad, prefix-ended, prefix-followed, prefix-refused, prefix-some}
 use borrow.Author.Needs.{needs}
 use Rattle.directives.proofs.tag.read_prefix.Statement.{statement}
 use Rattle.directives.proofs.tag.read_prefix.Tie as tie
@@ -9,11 +11,33 @@ use Rattle.directives.proofs.tag.read_prefix.Tie as tie
 skip-blanks-requires : tie.Need-skip-blanks-requires
 skip-blanks-requires c κs = search needs
 
-tag-prefix-requires : tie.Need-tag-prefix-requires
-tag-prefix-requires c κs = let h = c .before .before .before .before .pre in (c .before .skip-blanks .ensures .stands, omega (arith, h .0 .stands, h .1, h .2))
+byte-requires : tie.Need-byte-requires
+byte-requires c κs = search needs
+
+cast-begins-prefix : tie.Need-cast-begins-prefix
+cast-begins-prefix c = search needs
+
+begins-prefix-requires : tie.Need-begins-prefix-requires
+begins-prefix-requires c κs = search needs
+
+refuse-out-requires : tie.Need-refuse-out-requires
+refuse-out-requires c κs = search needs
+
+same-length : tie.Need-same-length
+same-length c = search needs
+
+returns : tie.Need-returns
+returns c = λ before h f.
+    prefix-bad _ f (c .before .before .before .before .before .before .before .skip-blanks .ensures) (c .before .before .before .before .before .before .byte .ensures) (sym (c .before .before .before .before .before .begins-prefix .ensures) ∙ not-true _ (c .before .before .before .before .if1 .taken)) (c .before .before .refuse-out .ensures .0) (c .before .before .refuse-out .ensures .1)
+
+uri-run-requires : tie.Need-uri-run-requires
+uri-run-requires c κs = search needs
 
 enum-known-r : tie.Need-enum-known-r
 enum-known-r c = search needs
+
+pass-on-requires : tie.Need-pass-on-requires
+pass-on-requires c κs = search needs
 
 enum-known-r-2 : tie.Need-enum-known-r-2
 enum-known-r-2 c = search needs
@@ -27,14 +51,14 @@ is-blank-or-breakz-requires c κs = search needs
 text-at-requires : tie.Need-text-at-requires
 text-at-requires c κs = search needs
 
-word-requires : tie.Need-word-requires
-word-requires c κs = search needs
+as-word-requires : tie.Need-as-word-requires
+as-word-requires c κs = search needs
 
 add-text-at : tie.Need-add-text-at
-add-text-at c = let h = c .before .before .before .before .before .before .before .before .before .before .before .before .before .before .before .pre in omega (arith, c .word .ensures, h .0, h .1, h .2)
+add-text-at c = let h = c .before .before .before .before .before .before .before .before .before .before .before .before .before .before .before .before .before .before .pre in omega (arith, c .as-word .ensures, h .0, h .1, h .2)
 
 sub-text-at : tie.Need-sub-text-at
-sub-text-at c = let t = ran (c .before .before .before .before .before .before .before .before .before .before .tag-prefix .ensures) (c .before .before .before .before .before .before .r2 .given .1) .next in omega arith
+sub-text-at c = let t = ran (c .before .before .before .before .before .before .before .before .before .before .uri-run .ensures .writes) (c .before .before .before .before .before .before .r2 .given .1) .next in omega arith
 
 text-at-requires-2 : tie.Need-text-at-requires-2
 text-at-requires-2 c κs = search needs
@@ -42,54 +66,61 @@ text-at-requires-2 c κs = search needs
 got-requires : tie.Need-got-requires
 got-requires c κs = search needs
 
-same-length : tie.Need-same-length
-same-length c = search needs
-
-returns : tie.Need-returns
-returns c = λ before h f.
-    let w = c .before .before .before .before .before .before .before .before .before .before .before .before in
-    let g = c .before .before .before .before .before .before .before .before .before .before .before .before .before .before .before .before .before .pre in
-    prefix-ended _ f (w .before .before .skip-blanks .ensures) (w .tag-prefix .ensures) (c .before .before .before .before .before .before .before .before .r2 .given .1) (c .before .before .before .before .before .before .look .ensures) (g .0) (g .2) (g .3)
-    (sym (c .before .before .before .before .before .is-blank-or-breakz .ensures) ∙ c .before .before .before .before .if1 .taken) (c .before .before .before .text-at .ensures) (c .before .before .word .ensures) (c .before .text-at2 .ensures) (c .got .ensures)
-
-refuse-requires : tie.Need-refuse-requires
-refuse-requires c κs = search needs
-
 same-length-2 : tie.Need-same-length-2
 same-length-2 c = search needs
 
 returns-2 : tie.Need-returns-2
-returns-2 c = λ before h f. let w = c .before .before .before .before .before in prefix-refused _ f (w .before .before .skip-blanks .ensures) (w .tag-prefix .ensures) (c .before .r .given .1) refl
+returns-2 c = λ before h f.
+    let g = c .before .before .before .before .before .before .before .before .before .before .before .before .before .before .before .before .before .before .before .before .pre in
+    prefix-ended _ f (c .before .before .before .before .before .before .before .before .before .before .before .before .before .before .before .before .before .skip-blanks .ensures) (prefix-some _ (c .before .before .before .before .before .before .before .before .before .before .before .before .before .before .before .before .byte .ensures) (sym (c .before .before .before .before .before .before .before .before .before .before .before .before .before .before .before .begins-prefix .ensures) ∙ not-false _ (c .before .before .before .before .before .before .before .before .before .before .before .before .before .before .if1 .left)) (c .before .before .before .before .before .before .before .before .before .before .before .before .uri-run .ensures .writes)) (c .before .before .before .before .before .before .before .before .r2 .given .1) (c .before .before .before .before .before .before .look .ensures) (g .0) (g .2) (g .3)
+    (sym (c .before .before .before .before .before .is-blank-or-breakz .ensures) ∙ c .before .before .before .before .if2 .taken) (c .before .before .before .text-at .ensures) (c .before .before .as-word .ensures) (c .before .text-at2 .ensures) (c .got .ensures)
+
+refuse-out-requires-2 : tie.Need-refuse-out-requires-2
+refuse-out-requires-2 c κs = search needs
 
 same-length-3 : tie.Need-same-length-3
 same-length-3 c = search needs
 
 returns-3 : tie.Need-returns-3
 returns-3 c = λ before h f.
-    let w = c .before .before .before .before .before .before .before .before .before in
-    prefix-followed _ f (w .before .before .skip-blanks .ensures) (w .tag-prefix .ensures) (c .before .before .before .before .before .r2 .given .1) (c .before .before .before .look .ensures)
-    (sym (c .before .before .is-blank-or-breakz .ensures) ∙ c .before .if1 .left) (c .refuse .ensures)
+    prefix-refused _ f (c .before .before .before .before .before .before .before .before .before .before .before .before .before .before .skip-blanks .ensures) (prefix-some _ (c .before .before .before .before .before .before .before .before .before .before .before .before .before .byte .ensures) (sym (c .before .before .before .before .before .before .before .before .before .before .before .before .begins-prefix .ensures) ∙ not-false _ (c .before .before .before .before .before .before .before .before .before .before .before .if1 .left)) (c .before .before .before .before .before .before .before .before .before .uri-run .ensures .writes)) (c .before .before .before .before .before .before .before .before .before .uri-run .kept .1 .1 .1 .1 .1 .0)
+    (c .before .before .pass-on .ensures .1) (c .before .before .before .before .before .r .given .1) (c .before .before .pass-on .ensures .0)
+
+same-length-4 : tie.Need-same-length-4
+same-length-4 c = search needs
+
+returns-4 : tie.Need-returns-4
+returns-4 c = λ before h f.
+    prefix-followed _ f (c .before .before .before .before .before .before .before .before .before .before .before .before .before .before .before .before .before .skip-blanks .ensures) (prefix-some _ (c .before .before .before .before .before .before .before .before .before .before .before .before .before .before .before .before .byte .ensures) (sym (c .before .before .before .before .before .before .before .before .before .before .before .before .before .before .before .begins-prefix .ensures) ∙ not-false _ (c .before .before .before .before .before .before .before .before .before .before .before .before .before .before .if1 .left)) (c .before .before .before .before .before .before .before .before .before .before .before .before .uri-run .ensures .writes)) (c .before .before .before .before .before .before .before .before .before .before .before .before .uri-run .kept .1 .1 .1 .1 .1 .0)
+    (c .before .before .refuse-out2 .ensures .1) (c .before .before .before .before .before .before .before .before .r2 .given .1) (c .before .before .before .before .before .before .look .ensures) (sym (c .before .before .before .before .before .is-blank-or-breakz .ensures) ∙ c .before .before .before .before .if2 .left) (c .before .before .refuse-out2 .ensures .0)
 
 pub read-prefix-spec : {M : Type 1} → statement M
 read-prefix-spec =
     tie.close
     (tie.spec
     skip-blanks-requires
-    tag-prefix-requires
+    byte-requires
+    cast-begins-prefix
+    begins-prefix-requires
+    refuse-out-requires
+    same-length
+    returns
+    uri-run-requires
     enum-known-r
+    pass-on-requires
     enum-known-r-2
     look-requires
     is-blank-or-breakz-requires
     text-at-requires
-    word-requires
+    as-word-requires
     add-text-at
     sub-text-at
     text-at-requires-2
     got-requires
-    same-length
-    returns
-    refuse-requires
     same-length-2
     returns-2
+    refuse-out-requires-2
     same-length-3
-    returns-3)
+    returns-3
+    same-length-4
+    returns-4)

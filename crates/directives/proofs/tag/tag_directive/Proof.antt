@@ -1,4 +1,5 @@
-use mathlib.Core.Path.{_≡_, refl}
+-- The handle is copied and the prefix read behind it; a refusal clears the room.
+use mathlib.Core.Path.{_≡_}
 use native.Mathlib.Omega.{arith}
 use denote.Ref.{now}
 use Rattle.yaml_text.specs.Mark.{Run}
@@ -28,6 +29,9 @@ tag-handle-requires c κs = search needs
 enum-known-h : tie.Need-enum-known-h
 enum-known-h c = search needs
 
+pass-on-requires : tie.Need-pass-on-requires
+pass-on-requires c κs = search needs
+
 enum-known-h-2 : tie.Need-enum-known-h-2
 enum-known-h-2 c = search needs
 
@@ -47,20 +51,21 @@ sub-read-prefix : tie.Need-sub-read-prefix
 sub-read-prefix c = let h = read (c .before .before .before .before .before) .2 .moves .onward in search needs
 
 read-prefix-requires : tie.Need-read-prefix-requires
-read-prefix-requires c κs =
-    let m = read (c .before .before .before .before .before .before) .2 .moves in
+read-prefix-requires c κs = let m = read (c .before .before .before .before .before .before) .2 .moves in
     let p = c .before .before .before .before .before .before .before .before .before .before .before .before .before .pre in
     (p .0, m .stands, omega (arith, m .onward), omega (arith, m .onward, c .before .before .before .before .before .before .before .before .before .before .skip-blanks .ensures .onward, p .2))
-
-returns : tie.Need-returns
-returns c = tag-refused _ (c .before .before .before .before .skip-blanks .ensures) (c .before .before .before .tag-handle .ensures) (c .before .h .given .1) refl
 
 same-length : tie.Need-same-length
 same-length c = search needs
 
+returns : tie.Need-returns
+returns c = tag-refused _ (c .before .before .before .before .before .before .before .before .skip-blanks .ensures) (c .before .before .before .before .before .before .before .tag-handle .ensures) (c .before .before .before .before .before .h .given .1) (c .before .before .pass-on .ensures .0) (c .before .before .pass-on .ensures .1)
+
+same-length-2 : tie.Need-same-length-2
+same-length-2 c = search needs
+
 returns-2 : tie.Need-returns-2
-returns-2 c =
-    let k = c .before .before .before .before .before .before .before .before .before in
+returns-2 c = let k = c .before .before .before .before .before .before .before .before .before in
     let t = read k in
     tag-got _ (k .before .before .before .before .skip-blanks .ensures) (t .1) (t .2) (c .before .before .read-prefix .ensures _ (t .0 .text) (span-front (t .2) (c .before .before .before .before .before .before .copy .ensures)))
 
@@ -71,6 +76,7 @@ tag-directive-spec =
     skip-blanks-requires
     tag-handle-requires
     enum-known-h
+    pass-on-requires
     enum-known-h-2
     sub-copy
     part-copy-start
@@ -78,6 +84,7 @@ tag-directive-spec =
     copy-requires
     sub-read-prefix
     read-prefix-requires
-    returns
     same-length
+    returns
+    same-length-2
     returns-2)

@@ -1,3 +1,4 @@
+-- One law of handles for each return, by the bytes at its two ends.
 use mathlib.Core.Path.{ap, refl}
 use native.Mathlib.Omega.{arith}
 use denote.Ref.{now}
@@ -6,8 +7,8 @@ use Rattle.chars.specs.Bytes.{CharAt, eq-char}
 use Rattle.chars.specs.Parts.{Spans}
 use Rattle.chars.specs.Places.{small, stands-along}
 use Rattle.chars.specs.View.{past}
-use Rattle.yaml_text.specs.Class.{isAlpha}
-use Rattle.yaml_text.specs.Mark.{along, word}
+use Rattle.yaml_text.specs.Class.{is-alpha}
+use Rattle.yaml_text.specs.Mark.{along, run-of}
 use Rattle.yaml_text.specs.Utf8.{chars}
 use Prim.Native.Nat.{_+_}
 use lib.ListN.{drop}
@@ -21,10 +22,10 @@ use Rattle.directives.proofs.tag.tag_handle.Tie as tie
 mark : (c : tie.Else1) → let a = c .before .before .before .args in CharAt (now (a .text)) (a .p .at) '!' 1
 mark c = eq-char _ _ _ (c .before .byte .ensures) '!' tt (c .if1 .left)
 
-name-read : (c : tie.After-word)
+name-read : (c : tie.After-run-of)
     → let a = c .before .before .before .before .before .args in
-    Spans (now (a .text)) (past (a .p) 1 (along (a .p .mark))) (c .word .result) (word isAlpha (along (a .p .mark)) (chars (drop (a .p .at + 1) (now (a .text)))))
-name-read c = rw (c .before .skip-blank .ensures) at (c .word .ensures)
+    Spans (now (a .text)) (past (a .p) 1 (along (a .p .mark))) (c .run-of .result) (run-of is-alpha (along (a .p .mark)) (chars (drop (a .p .at + 1) (now (a .text)))))
+name-read c = rw (c .before .skip-blank .ensures) at (c .run-of .ensures)
 
 byte-requires : tie.Need-byte-requires
 byte-requires c κs = search needs
@@ -38,8 +39,8 @@ returns c = handle-none _ _ (c .before .before .byte .ensures) (c .before .if1 .
 skip-blank-requires : tie.Need-skip-blank-requires
 skip-blank-requires c κs = search needs
 
-word-requires : tie.Need-word-requires
-word-requires c κs = rw (c .skip-blank .ensures) (stands-along (c .before .before .before .before .pre) 1 1 (omega arith) (mark (c .before) .within))
+run-of-requires : tie.Need-run-of-requires
+run-of-requires c κs = rw (c .skip-blank .ensures) (stands-along (c .before .before .before .before .pre) 1 1 (omega arith) (mark (c .before) .within))
 
 byte-requires-2 : tie.Need-byte-requires-2
 byte-requires-2 c κs = search needs
@@ -76,7 +77,7 @@ tag-handle-spec =
     stuck-requires
     returns
     skip-blank-requires
-    word-requires
+    run-of-requires
     byte-requires-2
     skip-blank-requires-2
     returns-2

@@ -1,3 +1,4 @@
+-- The dot and the number behind it are read as the definition does.
 use mathlib.Core.Path.{refl}
 use native.Mathlib.Omega.{arith}
 use denote.Ref.{now}

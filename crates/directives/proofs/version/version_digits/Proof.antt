@@ -1,10 +1,11 @@
+-- The value of what is left, behind the digits so far, is the whole value; nine digits do not wrap.
 use Prim.Native.Nat.{_*_, _+_, _-_, _<_, _^_}
 use mathlib.Core.Bool.{true}
 use mathlib.Core.Path.{_∙_, _≡_, sym}
 use native.Mathlib.Omega.{arith}
 use lib.ListN.{length}
 use borrow.Author.Needs.{needs}
-use Rattle.yaml_text.specs.Class.{isDigit}
+use Rattle.yaml_text.specs.Class.{is-digit}
 use Rattle.chars.specs.Places.{small}
 use Rattle.directives.proofs.Versions.{Counting, counting-long, counting-more, counting-room, counting-start, counting-stop, digit-char, digit-value}
 use Rattle.directives.proofs.version.version_digits.Statement.{statement}
@@ -17,7 +18,7 @@ abbrev μ-loop : tie.MeasureT-loop
 μ-loop text start p₀ v₀ n₀ p v n = length text - p .at
 
 -- where a digit stands; where it is no tenth
-digit : (c : tie.Then1 Inv-loop μ-loop) → isDigit (c .before .before .byte .result) ≡ true
+digit : (c : tie.Then1 Inv-loop μ-loop) → is-digit (c .before .before .byte .result) ≡ true
 digit c = sym (c .before .is-digit .ensures) ∙ c .if1 .taken
 
 room : (c : tie.Else2 Inv-loop μ-loop) → c .before .before .before .before .loop .v * 10 + 9 < 2 ^ 32

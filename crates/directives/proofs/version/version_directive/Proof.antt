@@ -1,3 +1,4 @@
+-- The first number is read behind the blanks, and the rest behind it.
 use mathlib.Core.Path.{refl}
 use native.Mathlib.Omega.{arith}
 use Rattle.directives.proofs.Versions.{number-ahead, version-got, version-refused}
@@ -26,7 +27,7 @@ returns : tie.Need-returns
 returns c = version-refused _ (c .before .before .before .before .skip-blanks .ensures) (c .before .before .before .version-number .ensures) (c .before .major .given .1) refl
 
 returns-2 : tie.Need-returns-2
-returns-2 c = λ before used. version-got _ (c .before .before .before .before .before .skip-blanks .ensures) (c .before .before .before .before .version-number .ensures) (c .before .before .major2 .given .1) (c .minor-version .ensures before used)
+returns-2 c = λ used. version-got _ (c .before .before .before .before .before .skip-blanks .ensures) (c .before .before .before .before .version-number .ensures) (c .before .before .major2 .given .1) (c .minor-version .ensures used)
 
 pub version-directive-spec : {M : Type 1} → statement M
 version-directive-spec =

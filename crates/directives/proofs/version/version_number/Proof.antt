@@ -1,3 +1,4 @@
+-- The first character tells whether a number stands there.
 use mathlib.Core.Path.{_∙_, sym}
 use Rattle.directives.proofs.Versions.{number-none, number-some}
 use borrow.Author.Needs.{needs}

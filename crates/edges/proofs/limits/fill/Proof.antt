@@ -1,3 +1,4 @@
+-- Each turn stores inside the room and goes one byte on.
 use Prim.Native.Nat.{_-_}
 use mathlib.Core.Path.{_≡_}
 use lib.ListN.{length}

@@ -1,3 +1,4 @@
+-- Each turn goes behind a line, so less of the text is left; both rooms keep their lengths.
 use Prim.Native.Nat.{_-_}
 use mathlib.Core.Path.{_≡_}
 use native.Mathlib.Omega.{arith}

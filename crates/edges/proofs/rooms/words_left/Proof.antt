@@ -1,3 +1,4 @@
+-- Each turn reads inside the words and goes one on.
 use Prim.Native.Nat.{_-_, _≤_}
 use lib.ListN.{length}
 use borrow.Author.Needs.{needs}

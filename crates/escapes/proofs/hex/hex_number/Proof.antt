@@ -1,9 +1,10 @@
+-- `escapes::hex::hex_number` meets its contract: the invariant: the digits so far and those that are left make the whole number.
 use Prim.Native.Nat.{_*_, _+_, _-_, _^_, _≤_}
 use mathlib.Core.Bool.{true}
 use mathlib.Core.Path.{_∙_, _≡_, sym}
 use native.Mathlib.Omega.{arith}
 use borrow.Author.Needs.{needs}
-use Rattle.yaml_text.specs.Class.{isHex}
+use Rattle.yaml_text.specs.Class.{is-hex}
 use Rattle.escapes.proofs.Numbers.{Reading, digit-value, reading-done, reading-more, reading-room, reading-start, reading-stop}
 use Rattle.escapes.proofs.hex.hex_number.Statement.{statement}
 use Rattle.escapes.proofs.hex.hex_number.Tie as tie
@@ -18,7 +19,7 @@ abbrev μ-loop : tie.MeasureT-loop
 abbrev T : Type 0
 T = tie.Then1 Inv-loop μ-loop
 
-digit : (c : T) → isHex (c .before .before .byte .result) ≡ true
+digit : (c : T) → is-hex (c .before .before .byte .result) ≡ true
 digit c = sym (c .before .is-hex .ensures) ∙ c .if1 .taken
 
 room : (c : T) → c .before .before .before .before .loop .v * 16 + 16 ≤ 2 ^ 32

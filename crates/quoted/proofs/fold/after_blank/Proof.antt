@@ -1,3 +1,4 @@
+-- One clause of the definition for each mode.
 use Rattle.quoted.specs.Modes.{blank-mode}
 use borrow.Author.Needs.{needs}
 use Rattle.quoted.proofs.fold.after_blank.Statement.{statement}

@@ -1,3 +1,4 @@
+-- One clause of the definition for each mode.
 use native.Mathlib.Omega.{arith}
 use Rattle.quoted.specs.Modes.{break-mode}
 use borrow.Author.Needs.{needs}

@@ -1,3 +1,4 @@
+-- It is the definition, test by test.
 use borrow.Author.Needs.{needs}
 use Rattle.quoted.specs.Texts.{inner}
 use Rattle.quoted.proofs.turns.is_inner.Statement.{statement}

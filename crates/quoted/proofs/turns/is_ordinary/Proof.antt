@@ -1,3 +1,4 @@
+-- It is the definition, test by test.
 use mathlib.Core.Path.{refl}
 use Rattle.quoted.specs.Texts.{ordinary}
 use Rattle.quoted.proofs.turns.is_ordinary.Statement.{statement}

@@ -1,3 +1,4 @@
+-- It is the definition, test by test.
 use Rattle.quoted.specs.Texts.{special}
 use borrow.Author.Needs.{needs}
 use Rattle.quoted.proofs.turns.is_special.Statement.{statement}

@@ -1,3 +1,4 @@
+-- The byte there tells whether it is the closing quote; then the definition, test by test.
 use denote.Ref.{now}
 use mathlib.Core.Path.{_∙_, sym}
 use Rattle.quoted.proofs.Lines.{number-free, number-marker, number-none, number-short}

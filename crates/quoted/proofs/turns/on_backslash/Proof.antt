@@ -1,3 +1,4 @@
+-- An escaped break, an escape that is written, or one that is refused, which clears the room.
 use mathlib.Core.Path.{_∙_}
 use native.Mathlib.Omega.{arith}
 use Rattle.chars.specs.Lines.{break-few}
@@ -40,8 +41,13 @@ refusal-number-requires c κs = search needs
 wrong-requires : tie.Need-wrong-requires
 wrong-requires c κs = search needs
 
+same-length : tie.Need-same-length
+same-length c = search needs
+
 returns-2 : tie.Need-returns-2
-returns-2 c = refused-turns _ (c .before .before .before .before .before .before .before .before .before .before .pre .0) (c .before .before .before .before .before .before .before .before .before .before .pre .1) (c .before .before .before .before .before .before .before .before .before .before .pre .2) (rw (c .before .before .before .before .before .before .before .break-length .ensures) at (c .before .before .before .before .before .before .if1 .left)) _ (c .before .before .enum-told .given .1) (c .before .before .before .before .escape .ensures) (c .before .refusal-number .ensures) (c .wrong .ensures)
+returns-2 c =
+    refused-turns _ (c .before .before .before .before .before .before .before .before .before .before .before .before .before .pre .0) (c .before .before .before .before .before .before .before .before .before .before .before .before .before .pre .1) (c .before .before .before .before .before .before .before .before .before .before .before .before .before .pre .2) (rw (c .before .before .before .before .before .before .before .before .before .before .break-length .ensures) at (c .before .before .before .before .before .before .before .before .before .if1 .left)) _ (c .before .before .before .before .before .enum-told .given .1) (c .before .before .before .before .before .before .before .escape .ensures)
+    (c .before .before .before .before .refusal-number .ensures) (c .before .before .wrong .ensures)
 
 put-char-requires : tie.Need-put-char-requires
 put-char-requires c κs = (omega (arith, c .before .before .before .before .before .before .before .before .before .before .pre .0), rw (c .before .before .e .given .1) at (c .before .before .before .before .escape .ensures .ahead) .0)
@@ -49,8 +55,8 @@ put-char-requires c κs = (omega (arith, c .before .before .before .before .befo
 goes-requires-2 : tie.Need-goes-requires-2
 goes-requires-2 c κs = search needs
 
-same-length : tie.Need-same-length
-same-length c = search needs
+same-length-2 : tie.Need-same-length-2
+same-length-2 c = search needs
 
 returns-3 : tie.Need-returns-3
 returns-3 c = one-turns _ (c .before .before .before .before .before .before .before .before .before .before .before .before .before .before .pre .0) (c .before .before .before .before .before .before .before .before .before .before .before .before .before .before .pre .1) (c .before .before .before .before .before .before .before .before .before .before .before .before .before .before .pre .2) (rw (c .before .before .before .before .before .before .before .before .before .before .before .break-length .ensures) at (c .before .before .before .before .before .before .before .before .before .before .if1 .left)) (rw (c .before .before .before .before .before .before .e .given .1) at (c .before .before .before .before .before .before .before .before .escape .ensures)) (c .before .before .before .put-char .ensures .0) (c .before .before .before .put-char .ensures .1) (c .goes2 .ensures)
@@ -70,8 +76,9 @@ on-backslash-spec =
     enum-told
     refusal-number-requires
     wrong-requires
+    same-length
     returns-2
     put-char-requires
     goes-requires-2
-    same-length
+    same-length-2
     returns-3)

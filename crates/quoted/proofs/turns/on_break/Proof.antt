@@ -1,3 +1,4 @@
+-- It is the definition's turn over a break.
 use mathlib.Core.Path.{_∙_}
 use Rattle.chars.specs.Lines.{break-few}
 use borrow.Author.Needs.{needs}

@@ -1,3 +1,4 @@
+-- The byte there tells whether it is a quote, a backslash or text that stands for itself.
 use Prim.Native.Nat.{_+_}
 use mathlib.Core.Path.{_∙_, sym}
 use lib.Dec.{leb}

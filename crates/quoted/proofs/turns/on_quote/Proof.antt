@@ -1,3 +1,4 @@
+-- A single quote that stands twice is text; any other closes the scalar.
 use mathlib.Core.Path.{_∙_}
 use Rattle.quoted.proofs.Quotes.{close-turns, pair-turns}
 use borrow.Author.Needs.{needs}

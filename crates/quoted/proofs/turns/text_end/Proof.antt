@@ -1,3 +1,4 @@
+-- What is left of the run from a character on gives the whole run.
 use Prim.Native.Nat.{_-_}
 use mathlib.Core.Path.{_∙_, ap, refl, sym}
 use native.Mathlib.Omega.{arith}

@@ -1,3 +1,4 @@
+-- A state that is put together anew is the same.
 use mathlib.Core.Path.{sym}
 use borrow.Author.Needs.{needs}
 use Rattle.scanner.proofs.run.apart.Statement.{statement}

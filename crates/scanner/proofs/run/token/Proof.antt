@@ -1,3 +1,4 @@
+-- Either kind of token is taken as the definition has it, and putting a state together anew changes nothing.
 use borrow.Author.Needs.{needs}
 use Rattle.scanner.proofs.run.token.Statement.{statement}
 use Rattle.scanner.proofs.run.token.Tie as tie
@@ -11,8 +12,8 @@ is-brief-requires c κs = search needs
 anew-requires : tie.Need-anew-requires
 anew-requires c κs = search needs
 
-brief-requires : tie.Need-brief-requires
-brief-requires c κs = rw (c .before .before .before .before .anew .ensures) (search needs)
+brief-token-requires : tie.Need-brief-token-requires
+brief-token-requires c κs = rw (c .before .before .before .anew .ensures) (search needs)
 
 same-length : tie.Need-same-length
 same-length c = search needs
@@ -23,17 +24,17 @@ same-length-2 c = search needs
 same-length-3 : tie.Need-same-length-3
 same-length-3 c = search needs
 
-same-length-4 : tie.Need-same-length-4
-same-length-4 c = search needs
-
 returns : tie.Need-returns
-returns c = rw (c .before .before .before .before .before .before .before .before .before .before .before .before .before .anew .ensures) at (c .before .before .before .before .before .before .before .before .brief .ensures)
+returns c = rw (c .before .before .before .before .before .before .before .before .before .before .anew .ensures) at (c .before .before .before .before .before .before .brief-token .ensures)
 
-lexeme-requires : tie.Need-lexeme-requires
-lexeme-requires c κs = search needs
+other-token-requires : tie.Need-other-token-requires
+other-token-requires c κs = search needs
 
 apart-requires : tie.Need-apart-requires
 apart-requires c κs = search needs
+
+same-length-4 : tie.Need-same-length-4
+same-length-4 c = search needs
 
 same-length-5 : tie.Need-same-length-5
 same-length-5 c = search needs
@@ -41,14 +42,8 @@ same-length-5 c = search needs
 same-length-6 : tie.Need-same-length-6
 same-length-6 c = search needs
 
-same-length-7 : tie.Need-same-length-7
-same-length-7 c = search needs
-
-same-length-8 : tie.Need-same-length-8
-same-length-8 c = search needs
-
 returns-2 : tie.Need-returns-2
-returns-2 c = rw (c .apart .ensures) (c .before .before .before .before .before .before .before .before .before .lexeme .ensures)
+returns-2 c = rw (c .apart .ensures) (c .before .before .before .before .before .before .before .other-token .ensures)
 
 pub token-spec : {M : Type 1} → statement M
 token-spec =
@@ -57,16 +52,14 @@ token-spec =
     choice-requires
     is-brief-requires
     anew-requires
-    brief-requires
+    brief-token-requires
     same-length
     same-length-2
     same-length-3
-    same-length-4
     returns
-    lexeme-requires
+    other-token-requires
     apart-requires
+    same-length-4
     same-length-5
     same-length-6
-    same-length-7
-    same-length-8
     returns-2)

@@ -1,3 +1,4 @@
+-- The first word of a candidate that is gone is 0, and only that one is stored.
 use mathlib.Core.Path.{refl}
 use denote.Ref.{now}
 use borrow.Author.Needs.{needs}
@@ -7,22 +8,25 @@ use Rattle.stacks.proofs.Frames.{key-stored}
 use Rattle.stacks.proofs.frame.clear_key.Statement.{statement}
 use Rattle.stacks.proofs.frame.clear_key.Tie as tie
 
-mul-frames : tie.Need-mul-frames
-mul-frames c = search needs
+mul-stacks : tie.Need-mul-stacks
+mul-stacks c = search needs
 
-mul-frames-2 : tie.Need-mul-frames-2
-mul-frames-2 c = search needs
+add-stacks : tie.Need-add-stacks
+add-stacks c = search needs
 
-slice-write-frames : tie.Need-slice-write-frames
-slice-write-frames c = search needs
+mul-stacks-2 : tie.Need-mul-stacks-2
+mul-stacks-2 c = search needs
+
+slice-write-stacks : tie.Need-slice-write-stacks
+slice-write-stacks c = search needs
 
 same-length : tie.Need-same-length
 same-length c = search needs
 
 returns : tie.Need-returns
 unfolding key-words
-returns c = key-stored (now (c .args .frames)) (c .args .depth) Absent (c .pre) refl
+returns c = key-stored (now (c .args .stacks)) (c .args .level) Absent (c .pre .0) (c .pre .1) refl
 
 pub clear-key-spec : {M : Type 1} → statement M
 clear-key-spec =
-    tie.close (tie.spec mul-frames mul-frames-2 slice-write-frames same-length returns)
+    tie.close (tie.spec mul-stacks add-stacks mul-stacks-2 slice-write-stacks same-length returns)

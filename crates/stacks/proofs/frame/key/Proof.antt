@@ -1,14 +1,18 @@
-use Prim.Native.Nat.{_*_}
+-- The words are read as the definition of a frame reads them; the first is 0 or not.
 use lib.ListN.{getD}
 use denote.Ref.{now}
 use borrow.Author.Tests.{eq-eqb, ne-eqb}
 use borrow.Author.Needs.{needs}
+use Rattle.stacks.specs.Stack.{frame-at}
 use Rattle.stacks.specs.Frame.{key-at}
 use Rattle.stacks.proofs.frame.key.Statement.{statement}
 use Rattle.stacks.proofs.frame.key.Tie as tie
 
 mul-at : tie.Need-mul-at
 mul-at c = search needs
+
+add-at : tie.Need-add-at
+add-at c = search needs
 
 mul-k : tie.Need-mul-k
 mul-k c = search needs
@@ -18,7 +22,7 @@ shared-slice-read-k c = search needs
 
 returns : tie.Need-returns
 unfolding key-at
-returns c = let a = c .before .before .args in rw (eq-eqb (getD (now (a .frames)) (a .depth * 6) 0) 0 (c .if1 .taken))
+returns c = let a = c .before .before .args in rw (eq-eqb (getD (now (a .stacks)) (frame-at (a .level)) 0) 0 (c .if1 .taken))
 
 add-t6 : tie.Need-add-t6
 add-t6 c = search needs
@@ -58,13 +62,14 @@ shared-slice-read-t19-2 c = search needs
 
 returns-2 : tie.Need-returns-2
 unfolding key-at
-returns-2 c = let a = c .before .before .before .before .before .before .args in rw (ne-eqb (getD (now (a .frames)) (a .depth * 6) 0) 0 (c .before .before .before .before .if1 .left))
+returns-2 c = let a = c .before .before .before .before .before .before .args in rw (ne-eqb (getD (now (a .stacks)) (frame-at (a .level)) 0) 0 (c .before .before .before .before .if1 .left))
 
 pub key-spec : {M : Type 1} → statement M
 key-spec =
     tie.close
     (tie.spec
     mul-at
+    add-at
     mul-k
     shared-slice-read-k
     returns

@@ -1,3 +1,4 @@
+-- A flag as a number is at most 1, so the sum of four of them, times 1, 2, 4 and 8, wraps nowhere.
 use native.Mathlib.Omega.{arith}
 use borrow.Author.Needs.{needs}
 use Rattle.stacks.specs.Bit.{bit-low}

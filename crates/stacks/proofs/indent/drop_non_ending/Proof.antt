@@ -1,3 +1,4 @@
+-- Each turn drops the entry that the definition drops, so what is left gives the whole.
 use denote.Ref.{now}
 use borrow.Author.Needs.{needs}
 use Rattle.stacks.proofs.Drops.{Dropping, dropped-none, dropped-stop, dropping-more, dropping-start}
@@ -11,7 +12,7 @@ abbrev μ-loop : tie.MeasureT-loop
 μ-loop stack indent₀ depth₀ indent depth = depth
 
 loop-holds : tie.Need-loop-holds Inv-loop μ-loop
-loop-holds c = let a = c .args in dropping-start (now (a .stack)) (a .from)
+loop-holds c = let a = c .args in dropping-start (now (a .stacks)) (a .from)
 
 sub-if1 : tie.Need-sub-if1 Inv-loop μ-loop
 sub-if1 c = search needs

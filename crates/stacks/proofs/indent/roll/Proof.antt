@@ -1,3 +1,4 @@
+-- The entry that the definition drops is dropped, and then one is stacked or not.
 use borrow.Author.Needs.{needs}
 use Rattle.stacks.proofs.Rolls.{rolled-full, rolled-starts, rolled-stays}
 use Rattle.stacks.proofs.indent.roll.Statement.{statement}
@@ -10,28 +11,28 @@ same-length : tie.Need-same-length
 same-length c = search needs
 
 returns : tie.Need-returns
-returns c = rolled-stays (c .before .before .before .before .before .args .limit) (c .before .before .drop-for .ensures .0) (c .if1 .taken)
+returns c = let a = c .before .before .before .before .before .args in rolled-stays (a .limit) (a .m) (c .before .before .drop-for .ensures .0) (c .if1 .taken)
 
 stack-requires : tie.Need-stack-requires
 stack-requires c κs = search needs
 
-enum-told : tie.Need-enum-told
-enum-told c = search needs
-
 enum-known-s : tie.Need-enum-known-s
 enum-known-s c = search needs
+
+enum-known-s-2 : tie.Need-enum-known-s-2
+enum-known-s-2 c = search needs
 
 same-length-2 : tie.Need-same-length-2
 same-length-2 c = search needs
 
 returns-2 : tie.Need-returns-2
-returns-2 c = rolled-full (c .before .before .before .before .before .before .before .before .before .before .before .args .limit) (c .before .before .before .before .before .before .before .before .drop-for .ensures .0) (c .before .before .before .before .before .before .if1 .left) (rw (c .enum-told .given .1) at (c .before .before .before .before .stack .ensures))
+returns-2 c = let a = c .before .before .before .before .before .before .before .before .before .before .before .before .args in rolled-full (a .limit) (a .m) (c .before .before .before .before .before .before .before .before .before .drop-for .ensures .0) (c .before .before .before .before .before .before .before .if1 .left) (rw (c .before .s .given .1) at (c .before .before .before .before .before .stack .ensures))
 
 same-length-3 : tie.Need-same-length-3
 same-length-3 c = search needs
 
 returns-3 : tie.Need-returns-3
-returns-3 c = rolled-starts (c .before .before .before .before .before .before .before .before .before .before .before .before .args .limit) (c .before .before .before .before .before .before .before .before .before .drop-for .ensures .0) (c .before .before .before .before .before .before .before .if1 .left) (rw (c .before .s .given .1) at (c .before .before .before .before .before .stack .ensures))
+returns-3 c = let a = c .before .before .before .before .before .before .before .before .before .before .before .before .args in rolled-starts (a .limit) (a .m) (c .before .before .before .before .before .before .before .before .before .drop-for .ensures .0) (c .before .before .before .before .before .before .before .if1 .left) (rw (c .before .s2 .given .1) at (c .before .before .before .before .before .stack .ensures))
 
 pub roll-spec : {M : Type 1} → statement M
 roll-spec =
@@ -41,8 +42,8 @@ roll-spec =
     same-length
     returns
     stack-requires
-    enum-told
     enum-known-s
+    enum-known-s-2
     same-length-2
     returns-2
     same-length-3

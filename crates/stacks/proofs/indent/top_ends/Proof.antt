@@ -1,3 +1,4 @@
+-- The top entry is the word below the depth, and its last bit tells whether it ends a block.
 use denote.Ref.{now}
 use borrow.Author.Needs.{needs}
 use Rattle.stacks.proofs.Drops.{top-none, top-some}
@@ -5,7 +6,7 @@ use Rattle.stacks.proofs.indent.top_ends.Statement.{statement}
 use Rattle.stacks.proofs.indent.top_ends.Tie as tie
 
 returns : tie.Need-returns
-returns c = let a = c .before .args in top-none (now (a .stack)) (a .depth) (c .if1 .taken)
+returns c = let a = c .before .args in top-none (now (a .stacks)) (a .depth) (c .if1 .taken)
 
 sub-result : tie.Need-sub-result
 sub-result c = search needs
@@ -17,7 +18,7 @@ shared-slice-read-result : tie.Need-shared-slice-read-result
 shared-slice-read-result c = search needs
 
 returns-2 : tie.Need-returns-2
-returns-2 c = let a = c .before .before .args in top-some (now (a .stack)) (a .depth) (c .before .if1 .left)
+returns-2 c = let a = c .before .before .args in top-some (now (a .stacks)) (a .depth) (c .before .if1 .left)
 
 pub top-ends-spec : {M : Type 1} → statement M
 top-ends-spec =

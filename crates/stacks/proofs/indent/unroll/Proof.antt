@@ -1,3 +1,4 @@
+-- Each turn drops the entry that the definition drops and counts its end, so what is left gives the whole.
 use denote.Ref.{now}
 use borrow.Author.Needs.{needs}
 use Rattle.stacks.proofs.Drops.{Unrolling, unrolled-none, unrolled-stop, unrolling-more, unrolling-start}
@@ -11,7 +12,7 @@ abbrev μ-loop : tie.MeasureT-loop
 μ-loop stack edge indent₀ depth₀ ended₀ indent depth ended = depth
 
 loop-holds : tie.Need-loop-holds Inv-loop μ-loop
-loop-holds c = let a = c .args in unrolling-start (now (a .stack)) (a .edge) (a .from)
+loop-holds c = let a = c .args in unrolling-start (now (a .stacks)) (a .edge) (a .from)
 
 sub-depth : tie.Need-sub-depth Inv-loop μ-loop
 sub-depth c = search needs

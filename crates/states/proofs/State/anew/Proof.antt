@@ -1,3 +1,4 @@
+-- Every field is copied, and the mark put together anew is the same.
 use borrow.Author.Needs.{needs}
 use Rattle.states.proofs.State.anew.Statement.{statement}
 use Rattle.states.proofs.State.anew.Tie as tie

@@ -1,3 +1,4 @@
+-- The fields are those of the first state.
 use borrow.Author.Needs.{needs}
 use Rattle.states.proofs.State.begin.Statement.{statement}
 use Rattle.states.proofs.State.begin.Tie as tie

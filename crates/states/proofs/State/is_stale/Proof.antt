@@ -1,3 +1,4 @@
+-- The tests of the definition, without a sum that could wrap.
 use Rattle.states.proofs.Keys.{stale-by, stale-line, stale-none}
 use Rattle.states.proofs.State.is_stale.Statement.{statement}
 use Rattle.states.proofs.State.is_stale.Tie as tie

@@ -1,3 +1,4 @@
+-- Where a simple key is allowed its frame is stored.
 use denote.Ref.{now}
 use borrow.Author.Needs.{needs}
 use Rattle.states.proofs.Keys.{saves-allowed, saves-not}
@@ -14,10 +15,10 @@ same-length : tie.Need-same-length
 same-length c = search needs
 
 returns : tie.Need-returns
-returns c = let a = c .before .before .before .before .before .before .before .before .args in saves-allowed (now (a .entries)) (now (a .frames)) (a .count) (a .self) (c .before .before .before .before .before .if1 .taken) (c .before .before .before .requires-key .ensures) (c .before .before .set-key .ensures)
+returns c = let b = c .before .before .before .before .before .before .before .before in saves-allowed (now (b .args .stacks)) (b .args .count) (b .args .self) (b .pre .1) (c .before .before .before .before .before .before .if1 .taken) (c .before .before .before .before .requires-key .ensures) (c .before .before .set-key .ensures)
 
 returns-2 : tie.Need-returns-2
-returns-2 c = let a = c .before .before .before .args in saves-not (now (a .entries)) (now (a .frames)) (a .count) (a .self) (c .if1 .left)
+returns-2 c = let a = c .before .before .args in saves-not (now (a .stacks)) (a .count) (a .self) (c .if1 .left)
 
 pub save-key-spec : {M : Type 1} → statement M
 save-key-spec =

@@ -1,3 +1,4 @@
+-- It is the definition, test by test.
 use borrow.Author.Needs.{needs}
 use Rattle.tags.proofs.tag.ends_tag.Statement.{statement}
 use Rattle.tags.proofs.tag.ends_tag.Tie as tie

@@ -1,8 +1,9 @@
+-- The mark and word characters are copied and the rest written behind them; a refusal clears both.
 use mathlib.Core.Path.{refl, sym}
 use native.Mathlib.Omega.{arith}
 use lib.Seq.{length-take-le}
 use denote.Ref.{now}
-use Rattle.words.specs.RunLaws.{ran}
+use Rattle.runs.specs.RunLaws.{ran}
 use Rattle.tags.proofs.Parts.{Copied, primary-alone, primary-refused, primary-some}
 use borrow.Author.Needs.{needs}
 use Rattle.tags.proofs.tag.primary.Statement.{statement}
@@ -27,6 +28,9 @@ uri-run-requires c κs = let h = c .before .before .before .before .before .befo
 enum-known-r : tie.Need-enum-known-r
 enum-known-r c = search needs
 
+wrong-requires : tie.Need-wrong-requires
+wrong-requires c κs = search needs
+
 enum-known-r-2 : tie.Need-enum-known-r-2
 enum-known-r-2 c = search needs
 
@@ -34,14 +38,12 @@ same-length : tie.Need-same-length
 same-length c = search needs
 
 returns : tie.Need-returns
-returns c =
-    let w = c .before .before .before .before .before .before in
-    primary-alone (begin w .pre) (copied w) (w .uri-run .ensures) (c .before .before .r2 .given .1) (c .if1 .taken) refl
+returns c = let w = c .before .before .before .before .before .before in
+    primary-alone (begin w .pre) (copied w) (w .uri-run .ensures .writes) (c .before .before .r2 .given .1) (c .if1 .taken) refl
 
-sub-t19 : tie.Need-sub-t19
-sub-t19 c =
-    let w = c .before .before .before .before .before .before in
-    let t = ran (w .uri-run .ensures) (c .before .before .r2 .given .1) in
+sub-t21 : tie.Need-sub-t21
+sub-t21 c = let w = c .before .before .before .before .before .before in
+    let t = ran (w .uri-run .ensures .writes) (c .before .before .r2 .given .1) in
     omega (arith, t .next, begin w .pre .name .moves .onward)
 
 same-length-2 : tie.Need-same-length-2
@@ -49,16 +51,15 @@ same-length-2 c = search needs
 
 returns-2 : tie.Need-returns-2
 returns-2 c =
-    let w = c .before .before .before .before .before in
-    primary-refused (begin w .pre) (copied w) (w .uri-run .ensures) (c .before .r .given .1) refl
+    let w = c .before .before .before .before .before .before .before .before .before in
+    primary-refused (begin w .pre) (copied w) (w .uri-run .ensures .writes) (c .before .before .before .before .before .r .given .1) (c .before .before .wrong .ensures .0) (c .before .before .wrong .ensures .1) (w .uri-run .kept .1 .1 .1 .1 .1 .0)
 
 same-length-3 : tie.Need-same-length-3
 same-length-3 c = search needs
 
 returns-3 : tie.Need-returns-3
-returns-3 c =
-    let w = c .before .before .before .before .before .before in
-    primary-some (begin w .pre) (copied w) (w .uri-run .ensures) (c .before .before .r2 .given .1) (c .if1 .left) refl
+returns-3 c = let w = c .before .before .before .before .before .before in
+    primary-some (begin w .pre) (copied w) (w .uri-run .ensures .writes) (c .before .before .r2 .given .1) (c .if1 .left) refl
 
 pub primary-spec : {M : Type 1} → statement M
 primary-spec =
@@ -68,10 +69,11 @@ primary-spec =
     copy-requires
     uri-run-requires
     enum-known-r
+    wrong-requires
     enum-known-r-2
     same-length
     returns
-    sub-t19
+    sub-t21
     same-length-2
     returns-2
     same-length-3

@@ -1,19 +1,20 @@
+-- The byte behind the mark and the one behind the word tell the form.
 use mathlib.Core.Path.{_∙_, sym}
 use native.Mathlib.Omega.{arith}
 use denote.Ref.{now}
 use Rattle.chars.specs.Places.{stands-along}
-use Rattle.tags.specs.Texts.{Named}
+use Rattle.tags.specs.Texts.{NameAt}
 use Rattle.tags.proofs.Tags.{tag-handled, tag-primary, tag-verbatim}
 use borrow.Author.Needs.{needs}
 use Rattle.tags.proofs.tag.tag_texts.Statement.{statement}
 use Rattle.tags.proofs.tag.tag_texts.Tie as tie
 
 -- where the word behind the mark was read, and the function's start from there
-abbrev begin : tie.After-word → tie.Start
+abbrev begin : tie.After-run-of → tie.Start
 begin c = c .before .before .before .before .before .before
 
-name-read : (c : tie.After-word) → Named (now (begin c .args .text)) (begin c .args .start) (c .word .result)
-name-read c = record { tagged = begin c .pre; name = rw (c .before .skip-blank .ensures) at (c .word .ensures) }
+name-read : (c : tie.After-run-of) → NameAt (now (begin c .args .text)) (begin c .args .start) (c .run-of .result)
+name-read c = record { tagged = begin c .pre; name = rw (c .before .skip-blank .ensures) at (c .run-of .ensures) }
 
 byte-requires : tie.Need-byte-requires
 byte-requires c κs = search needs
@@ -30,8 +31,8 @@ returns c = rw (tag-verbatim (c .before .before .before .before .before .before 
 skip-blank-requires : tie.Need-skip-blank-requires
 skip-blank-requires c κs = search needs
 
-word-requires : tie.Need-word-requires
-word-requires c κs = let h = c .before .before .before .before .before .pre in rw (c .skip-blank .ensures) (stands-along (h .stands) 1 1 (omega arith) (h .first .within))
+run-of-requires : tie.Need-run-of-requires
+run-of-requires c κs = let h = c .before .before .before .before .before .pre in rw (c .skip-blank .ensures) (stands-along (h .stands) 1 1 (omega arith) (h .first .within))
 
 byte-requires-2 : tie.Need-byte-requires-2
 byte-requires-2 c κs = search needs
@@ -67,7 +68,7 @@ tag-texts-spec =
     same-length
     returns
     skip-blank-requires
-    word-requires
+    run-of-requires
     byte-requires-2
     handled-requires
     same-length-2

@@ -1,0 +1,4 @@
+pub mod Leave
+pub mod Marker
+pub mod ByteOrderMark
+pub mod End

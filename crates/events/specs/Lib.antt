@@ -1,0 +1,4 @@
+pub mod Event
+pub mod Weighed
+pub mod Laid
+pub mod Count

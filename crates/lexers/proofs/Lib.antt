@@ -1,4 +1,0 @@
-pub mod Lent
-pub mod Read
-pub mod Saved
-pub mod Left

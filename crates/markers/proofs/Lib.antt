@@ -1,3 +1,0 @@
-pub mod Leave
-pub mod Marker
-pub mod End

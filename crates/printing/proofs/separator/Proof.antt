@@ -1,0 +1,13 @@
+-- Either way of the test is what `pick` answers.
+use borrow.Author.Tests.{eq-eqb, ne-eqb}
+use Rattle.printing.proofs.separator.Statement.{statement}
+use Rattle.printing.proofs.separator.Tie as tie
+
+returns : tie.Need-returns
+returns c = simp (eq-eqb _ _ (c .if1 .taken))
+
+returns-2 : tie.Need-returns-2
+returns-2 c = simp (ne-eqb _ _ (c .if1 .left))
+
+pub separator-spec : {M : Type 1} → statement M
+separator-spec = tie.close (tie.spec returns returns-2)

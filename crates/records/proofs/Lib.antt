@@ -1,0 +1,5 @@
+pub mod Reading
+pub mod Order
+pub mod Rows
+pub mod Same
+pub mod Strict
