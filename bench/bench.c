@@ -1,5 +1,6 @@
-// bench SCANNER ROUNDS FILE: scans a file again and again; prints the best time in nanoseconds, the tokens, and the peak memory in KB.
+// bench SCANNER ROUNDS FILE: scans a file again and again; prints the best time in nanoseconds, the tokens (-1: refused), the peak memory in KB, and the bytes.
 // tokenglade is lent what the text needs, tokenglade-full what demand 3 asks for any text of its size, which is cleared again by every scan.
+// tokenglade-stream takes one token at a time; it is lent 4,400 records, for any text, and the bytes that the text needs.
 // Buffers are lent as the last round left them; they are made and first touched before the clock starts.
 #include <libfyaml.h>
 #include <stdint.h>
@@ -19,12 +20,31 @@ static long tokenglade(const char *text, size_t len) {
     return answer[0] ? -1 : (long)answer[4];
 }
 
-static void lend(const char *text, size_t len, int full) {
+static long tokenglade_stream(const char *text, size_t len) {
+    static uint32_t state[TOKENGLADE_STATE];
+    uint32_t token[TOKENGLADE_RECORD_WORDS], last[5];
+    memset(state, 0, sizeof state);
+    for (long count = 0;; count++) {
+        tokenglade_next(state, (const uint8_t *)text, len, words, words_len, bytes, bytes_len, token, last);
+        if (token[0] == 0)
+            return last[0] ? -1 : count;
+    }
+}
+
+static void lend(const char *text, size_t len, const char *name) {
+    int full = !strcmp(name, "tokenglade-full"), stream = !strcmp(name, "tokenglade-stream");
     tokenglade(text, len);
-    words_len = full ? TOKENGLADE_WORDS(len) : (size_t)answer[4] * TOKENGLADE_RECORD_WORDS;
+    // 4: there is no room yet
+    if (answer[0] != 0 && answer[0] != 4)
+        return;
+    words_len = full ? TOKENGLADE_WORDS(len) : stream ? TOKENGLADE_STREAM_WORDS : (size_t)answer[4] * TOKENGLADE_RECORD_WORDS;
     bytes_len = full ? TOKENGLADE_BYTES(len) : answer[5];
     words = malloc(words_len * sizeof *words + 1);
     bytes = malloc(bytes_len + 1);
+    if (!words || !bytes) {
+        fprintf(stderr, "no memory\n");
+        exit(2);
+    }
     memset(words, 1, words_len * sizeof *words);
     memset(bytes, 1, bytes_len);
 }
@@ -54,11 +74,17 @@ static long libfyaml(const char *text, size_t len) {
     struct fy_parser *parser = fy_parser_create(&cfg);
     struct fy_token *token;
     long count = 0;
-    fy_parser_set_string(parser, text, len);
+    if (!parser || fy_parser_set_string(parser, text, len)) {
+        fprintf(stderr, "libfyaml can't begin\n");
+        exit(2);
+    }
+    // behind an error there are no more tokens either
     while ((token = fy_scan(parser)) != NULL) {
         count++;
         fy_scan_token_free(parser, token);
     }
+    if (fy_parser_get_stream_error(parser))
+        count = -1;
     fy_parser_destroy(parser);
     return count;
 }
@@ -82,29 +108,39 @@ static long peak(void) {
     return kb;
 }
 
+struct scanner { const char *name; long (*scan)(const char *, size_t); };
+static const struct scanner SCANNERS[] = {
+    { "tokenglade", tokenglade }, { "tokenglade-full", tokenglade }, { "tokenglade-stream", tokenglade_stream }, { "libyaml", libyaml }, { "libfyaml", libfyaml },
+};
+
+static const struct scanner *named(const char *name) {
+    for (size_t i = 0; i < sizeof SCANNERS / sizeof *SCANNERS; i++)
+        if (!strcmp(SCANNERS[i].name, name))
+            return &SCANNERS[i];
+    return NULL;
+}
+
 int main(int argc, char **argv) {
     static char text[1 << 21];
-    long (*scan)(const char *, size_t) = NULL;
     double best = 1e18;
     long count = 0;
-    if (argc != 4)
+    const struct scanner *scanner = argc == 4 ? named(argv[1]) : NULL;
+    int rounds = scanner ? atoi(argv[2]) : 0;
+    FILE *f = rounds > 0 ? fopen(argv[3], "rb") : NULL;
+    size_t len = f ? fread(text, 1, sizeof text, f) : 0;
+    if (!f || ferror(f) || len == sizeof text) {
+        fprintf(stderr, "usage: bench tokenglade|tokenglade-full|tokenglade-stream|libyaml|libfyaml ROUNDS FILE, a file of less than 2 MB\n");
         return 2;
-    FILE *f = fopen(argv[3], "rb");
-    if (!f)
-        return 2;
-    size_t len = fread(text, 1, sizeof text, f);
+    }
     fclose(f);
-    if (!strncmp(argv[1], "tokenglade", 10)) {
-        lend(text, len, !strcmp(argv[1], "tokenglade-full"));
-        scan = tokenglade;
-    } else
-        scan = strcmp(argv[1], "libyaml") ? libfyaml : libyaml;
-    for (int round = atoi(argv[2]); round > 0; round--) {
+    if (!strncmp(scanner->name, "tokenglade", 10))
+        lend(text, len, scanner->name);
+    for (int round = rounds; round > 0; round--) {
         double start = now();
-        count = scan(text, len);
+        count = scanner->scan(text, len);
         double spent = now() - start;
         best = spent < best ? spent : best;
     }
     printf("%.0f %ld %ld %zu\n", best, count, peak(), len);
-    return 0;
+    return fflush(stdout) ? 2 : 0;
 }

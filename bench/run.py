@@ -1,16 +1,17 @@
 #!/usr/bin/env python3
 """run.py [--rounds N]: scans the benchmark's texts with every scanner that was built, in one run; prints MB/s, tokens/s and peak memory of each,
-the ratio to the best peer, and how time grows from 64 KB to 1 MB. bench/build.sh builds what this runs."""
-import os, statistics, subprocess, sys
+the ratio to the best peer, that of tokens taken one at a time, and theirs to the one call; and how time grows from 64 KB to 1 MB. bench/build.sh
+builds what this runs.
+Where a scanner refuses a text it says `refused`. A text that this library refuses, or every peer, has no ratio, and the exit status is then 1."""
+import argparse, os, statistics, subprocess, sys
 
 HERE = os.path.dirname(os.path.abspath(__file__))
 OUT = os.environ.get("BENCH_OUT", os.path.join(HERE, "..", "target", "bench"))
 SIZES = [65_536, 1_048_576]
-ROUNDS = int(sys.argv[sys.argv.index("--rounds") + 1]) if "--rounds" in sys.argv else 5
 
 
 def scanners():
-    found = {n: [os.path.join(OUT, "bench"), n] for n in ("tokenglade", "tokenglade-full", "libyaml", "libfyaml")}
+    found = {n: [os.path.join(OUT, "bench"), n] for n in ("tokenglade", "tokenglade-full", "tokenglade-stream", "libyaml", "libfyaml")}
     rust = os.path.join(OUT, "bench-rust")
     if os.path.exists(rust):
         found["yaml-rust"] = [rust, "yaml-rust"]
@@ -18,20 +19,20 @@ def scanners():
 
 
 def measure(command, rounds, file):
-    """Best nanoseconds, tokens, peak KB, bytes."""
+    """Best nanoseconds, tokens (-1: refused), peak KB, bytes."""
     said = subprocess.run(command + [str(rounds), file], capture_output=True, text=True)
-    if said.returncode:
-        return None
+    if said.returncode or len(said.stdout.split()) != 4:
+        sys.exit(f"{' '.join(command)} {file}: status {said.returncode}: {said.stdout}{said.stderr}")
     best, tokens, peak, size = said.stdout.split()
     return float(best), int(tokens), int(peak), int(size)
 
 
-def rounds_of(jobs, found):
+def rounds_of(jobs, found, rounds):
     """What each job took, round by round. All stay on one core, and the scanners of a text run side by side in each round: a change of the machine's
     speed is met by all alike."""
     os.sched_setaffinity(0, {0})
     taken = {job: [] for job in jobs}
-    for _ in range(ROUNDS):
+    for _ in range(rounds):
         for job in jobs:
             name, size, scanner = job
             taken[job].append(measure(found[scanner], 3, os.path.join(OUT, f"texts-{size}", name + ".yaml")))
@@ -39,7 +40,7 @@ def rounds_of(jobs, found):
 
 
 def accepted(runs):
-    return all(r is not None and r[1] >= 0 for r in runs)
+    return all(r[1] >= 0 for r in runs)
 
 
 def middle(ratios):
@@ -49,26 +50,52 @@ def middle(ratios):
 
 def cell(runs):
     if not accepted(runs):
-        return "none"
+        return "refused"
     ns, tokens, peak, size = min(runs)
-    return f"{size / ns * 1e3:.1f} MB/s, {tokens / ns * 1e3:.1f} Mtok/s, {peak / 1024:.0f} MB"
+    return f"{size / ns * 1e3:.1f} MB/s, {tokens / ns * 1e3:.1f} Mtok/s, {peak / 1024:.1f} MB"
+
+
+def compared(ours, first, peers):
+    """The ratio to the best peer and the growth of time; none where there is nothing to compare."""
+    if not (peers and accepted(ours) and accepted(first)):
+        return None
+    return faster(ours, peers), f"{statistics.median(o[0] / f[0] for o, f in zip(ours, first)):.1f}"
+
+
+def faster(ours, others):
+    """How many times as fast as the best of the others; none where there is nothing to compare."""
+    if not (others and all(map(accepted, [ours, *others]))):
+        return "none"
+    return middle([min(o[r][0] for o in others) / ours[r][0] for r in range(len(ours))])
+
+
+def positive(s):
+    if int(s) < 1:
+        raise ValueError
+    return int(s)
 
 
 def main():
+    parser = argparse.ArgumentParser(description=__doc__)
+    parser.add_argument("--rounds", metavar="N", type=positive, default=5)
+    rounds = parser.parse_args().rounds
     found = scanners()
     for size in SIZES:
         subprocess.run([sys.executable, os.path.join(HERE, "texts.py"), os.path.join(OUT, f"texts-{size}"), str(size)], check=True)
     small, last = SIZES
     names = sorted(f[:-5] for f in os.listdir(os.path.join(OUT, f"texts-{last}")))
-    taken = rounds_of([job for name in names for job in [(name, small, "tokenglade")] + [(name, last, n) for n in found]], found)
-    print("| Text | " + " | ".join(found) + " | against the best peer | time, 1 MB to 64 KB |")
-    print("|---" * (len(found) + 3) + "|")
+    taken = rounds_of([job for name in names for job in [(name, small, "tokenglade")] + [(name, last, n) for n in found]], found, rounds)
+    print("| Text | " + " | ".join(found) + " | against the best peer | time, 1 MB to 64 KB | stream against the best peer | stream against the one call |")
+    print("|---" * (len(found) + 5) + "|")
+    missing = 0
     for name in names:
-        ours, first = taken[name, last, "tokenglade"], taken[name, small, "tokenglade"]
         peers = [taken[name, last, n] for n in found if not n.startswith("tokenglade") and accepted(taken[name, last, n])]
-        ratio = middle([min(p[r][0] for p in peers) / ours[r][0] for r in range(ROUNDS)])
-        growth = statistics.median(ours[r][0] / first[r][0] for r in range(ROUNDS))
-        print(f"| {name} | " + " | ".join(cell(taken[name, last, n]) for n in found) + f" | {ratio} | {growth:.1f} |", flush=True)
+        said = compared(taken[name, last, "tokenglade"], taken[name, small, "tokenglade"], peers)
+        missing += said is None
+        stream = [faster(taken[name, last, "tokenglade-stream"], others) for others in (peers, [taken[name, last, "tokenglade"]])]
+        print("| " + " | ".join([name, *(cell(taken[name, last, n]) for n in found), *(said or ("none", "none")), *stream]) + " |", flush=True)
+    if missing:
+        sys.exit(f"{missing} texts have no ratio")
 
 
 main()

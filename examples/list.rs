@@ -1,56 +1,23 @@
-//! list FILE: prints the tokens of a sheet, or why and where it was refused.
-use std::process::ExitCode;
-use tokenglade::{room, scan_in, Token};
+//! list FILE: prints the tokens of a sheet, or why and where it was refused. The exit status is 0, at a refusal 1, and 2 where it can't be read or printed.
+#![no_main]
+mod print;
 
-fn quoted(text: &str) -> String {
-    let mut out = String::from(" \"");
-    for c in text.chars() {
-        match c {
-            '\0'..='\x1f' | '\x7f' | '"' | '\\' => out += &format!("\\x{:02x}", c as u32),
-            _ => out.push(c),
-        }
-    }
-    out + "\""
-}
+use print::{line, tell_sheet};
+use std::io::{self, Write};
+use tokenglade::{room, scan_in};
 
-fn line(t: &Token) -> String {
-    let (start, end) = (t.start(), t.end());
-    let mut out = format!("{}:{}-{}:{} {}", start.line, start.col + 1, end.line, end.col + 1, t.kind_name());
-    if let Some((major, minor)) = t.version() {
-        out += &format!(" {major}.{minor}");
-    }
-    if let Some(style) = t.style() {
-        out += &format!(" {style}");
-    }
-    for text in [t.first(), t.second()].into_iter().flatten() {
-        out += &quoted(text);
-    }
-    out
-}
-
-fn main() -> ExitCode {
-    let Some(path) = std::env::args().nth(1) else {
-        eprintln!("usage: list FILE");
-        return ExitCode::from(2);
-    };
-    let text = match std::fs::read(&path) {
-        Ok(text) => text,
-        Err(e) => {
-            eprintln!("{path}: {e}");
-            return ExitCode::from(2);
-        }
-    };
-    let (words, bytes) = room(&text);
+/// The exit status.
+fn list(text: &[u8], out: &mut dyn Write) -> io::Result<i32> {
+    let (words, bytes) = room(text);
     let (mut words, mut bytes) = (vec![0; words], vec![0; bytes]);
-    let answer = scan_in(&text, &mut words, &mut bytes);
-    match answer {
-        Ok(tokens) => {
-            tokens.for_each(|t| println!("{}", line(&t)));
-            ExitCode::SUCCESS
-        }
-        Err(refusal) => {
-            println!("{refusal}");
-            ExitCode::FAILURE
-        }
+    let scanned = scan_in(text, &mut words, &mut bytes);
+    match scanned {
+        Ok(mut tokens) => tokens.try_for_each(|t| writeln!(out, "{}", line(&t))).map(|()| 0),
+        Err(refusal) => writeln!(out, "{refusal}").map(|()| 1),
     }
+}
+
+#[no_mangle]
+extern "C" fn main() -> i32 {
+    tell_sheet("list", list)
 }

@@ -1,4 +1,6 @@
-//! Tokens of a YAML text, by the proved scanner behind `tokenglade_scan`.
+//! Tokens of a YAML text, by the proved scanner behind `tokenglade_scan`, and one at a time behind `tokenglade_next`. include/tokenglade.h says what the
+//! two promise. To use this elsewhere take two files, this one and include/tokenglade_names.h (`NAMES` has its path), and link the static library.
+use std::marker::PhantomData;
 
 extern "C" {
     fn tokenglade_scan(
@@ -10,15 +12,37 @@ extern "C" {
         bytes_len: usize,
         answer: *mut u32,
     );
+    fn tokenglade_next(
+        state: *mut u32,
+        text: *const u8,
+        text_len: usize,
+        words: *mut u32,
+        words_len: usize,
+        bytes: *mut u8,
+        bytes_len: usize,
+        token: *mut u32,
+        answer: *mut u32,
+    );
 }
 
 /// Words in a record.
 pub const RECORD_WORDS: usize = 12;
 
+/// Words of a state, which a stream keeps from token to token.
+const STATE_WORDS: usize = 1809;
+
+/// Words that a stream must be lent, for a text of any length.
+const STREAM_WORDS: usize = 4400 * RECORD_WORDS;
+
 /// Room that is always enough: words and bytes for a text. A byte that goes on with a character begins none.
 pub fn room(text: &[u8]) -> (usize, usize) {
     let characters = text.iter().filter(|b| **b & 0xC0 != 0x80).count();
     ((2 * characters + 3) * RECORD_WORDS, 3 * text.len() / 2)
+}
+
+/// Room that is always enough for a stream: neither 5 nor 52 comes.
+pub fn stream_room(text: &[u8]) -> (usize, usize) {
+    (STREAM_WORDS, 3 * text.len() / 2)
 }
 
 #[derive(Clone, Copy, Debug, PartialEq, Eq)]
@@ -28,7 +52,8 @@ pub struct Mark {
     pub col: u32,
 }
 
-/// Why a text was refused, and where. At 4 and 5 the room was too small: what is needed is `tokens` records and `decoded` bytes.
+/// Why a text was refused, and where. At 4 and 5 of `scan_in` the room was too small: what is needed is `tokens` records and `decoded` bytes. A `Stream`
+/// always has 0 for both, at 5 too; `stream_room` is always enough for it.
 #[derive(Clone, Copy, Debug, PartialEq, Eq)]
 pub struct Refusal {
     pub number: u32,
@@ -38,9 +63,9 @@ pub struct Refusal {
 }
 
 /// One token: a record and its texts.
-#[derive(Clone, Copy, Debug)]
+#[derive(Clone, Copy)]
 pub struct Token<'a> {
-    record: &'a [u32],
+    record: [u32; RECORD_WORDS],
     bytes: &'a [u8],
 }
 
@@ -86,6 +111,20 @@ impl<'a> Token<'a> {
     }
 }
 
+impl std::fmt::Debug for Token<'_> {
+    fn fmt(&self, f: &mut std::fmt::Formatter) -> std::fmt::Result {
+        f.debug_struct("Token")
+            .field("kind", &self.kind_name())
+            .field("start", &self.start())
+            .field("end", &self.end())
+            .field("version", &self.version())
+            .field("style", &self.style())
+            .field("first", &self.first())
+            .field("second", &self.second())
+            .finish()
+    }
+}
+
 fn mark(words: &[u32]) -> Mark {
     Mark {
         index: words[0],
@@ -116,8 +155,73 @@ pub fn scan_in<'a>(text: &[u8], words: &'a mut [u32], bytes: &'a mut [u8]) -> Re
     }
     let bytes = &bytes[..decoded as usize];
     let records = words[..tokens as usize * RECORD_WORDS].chunks_exact(RECORD_WORDS);
-    Ok(records.map(move |record| Token { record, bytes }))
+    Ok(records.map(move |r| Token { record: r.try_into().expect("a chunk is a record"), bytes }))
 }
+
+/// The tokens of a text one at a time, in lent room of any length. The last item is StreamEnd or a refusal; tokens before it stay valid, with their texts.
+pub struct Stream<'a> {
+    state: [u32; STATE_WORDS],
+    text: &'a [u8],
+    words: &'a mut [u32],
+    // the lent bytes; tokens that were given borrow parts of them
+    bytes: *mut u8,
+    bytes_len: usize,
+    lent: PhantomData<&'a mut [u8]>,
+    over: bool,
+}
+
+// Nobody else has what it holds.
+unsafe impl Send for Stream<'_> {}
+
+impl<'a> Stream<'a> {
+    pub fn new(text: &'a [u8], words: &'a mut [u32], bytes: &'a mut [u8]) -> Self {
+        Stream { state: [0; STATE_WORDS], text, words, bytes: bytes.as_mut_ptr(), bytes_len: bytes.len(), lent: PhantomData, over: false }
+    }
+
+    /// The token of a record that was given.
+    fn given(&self, record: [u32; RECORD_WORDS]) -> Token<'a> {
+        let text_end = |at: usize| record[at] as usize + record[at + 1] as usize;
+        // A version directive has numbers there.
+        let end = if record[0] == 3 { 0 } else { text_end(7).max(text_end(9)) };
+        assert!(end <= self.bytes_len);
+        // The bytes of a token that was given are written once, before it is given: no later call writes what is lent here.
+        let bytes = unsafe { std::slice::from_raw_parts(self.bytes, end) };
+        Token { record, bytes }
+    }
+}
+
+impl<'a> Iterator for Stream<'a> {
+    type Item = Result<Token<'a>, Refusal>;
+
+    fn next(&mut self) -> Option<Self::Item> {
+        if self.over {
+            return None;
+        }
+        let (mut record, mut answer) = ([0u32; RECORD_WORDS], [0u32; 5]);
+        // Each part is lent with its own length, none overlaps another, and all are those of the call before.
+        unsafe {
+            tokenglade_next(
+                self.state.as_mut_ptr(),
+                self.text.as_ptr(),
+                self.text.len(),
+                self.words.as_mut_ptr(),
+                self.words.len(),
+                self.bytes,
+                self.bytes_len,
+                record.as_mut_ptr(),
+                answer.as_mut_ptr(),
+            );
+        }
+        if record[0] != 0 {
+            return Some(Ok(self.given(record)));
+        }
+        self.over = true;
+        let refusal = Refusal { number: answer[0], mark: mark(&answer[1..4]), tokens: 0, decoded: 0 };
+        (answer[0] != 0).then_some(Err(refusal))
+    }
+}
+
+impl std::iter::FusedIterator for Stream<'_> {}
 
 const NAMES: &str = include_str!("../include/tokenglade_names.h");
 
@@ -135,3 +239,5 @@ impl std::fmt::Display for Refusal {
         write!(f, "refused ({}) at line {}, column {}: {}", self.number, self.mark.line, self.mark.col + 1, words)
     }
 }
+
+impl std::error::Error for Refusal {}

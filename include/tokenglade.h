@@ -1,4 +1,6 @@
-/* Tokens of a YAML text, within lent room. */
+/* Tokens of a YAML text, within lent room.
+   A text is lent whole. It has at most 1,048,576 bytes: a longer one is refused, with number 1.
+   tokenglade_names.h has words for kinds, styles and refusals; docs/RULES.md has the rules. */
 #ifndef TOKENGLADE_H
 #define TOKENGLADE_H
 
@@ -17,11 +19,57 @@ extern "C" {
 #define TOKENGLADE_BYTES(b) (3 * (size_t)(b) / 2)
 
 /* Scans a text of any bytes into room of any length, and returns in every case.
-   answer[0] is 0 where the text is accepted: words then holds answer[4] records, bytes holds answer[5] decoded bytes, and all behind them is zero.
-   Else it is the refusal's number; answer[1] to answer[3] are the index, line and column of its mark, and both rooms are all zero.
+   answer[0] is 0 where the text is accepted: words then holds answer[4] records, bytes holds answer[5] decoded bytes, all behind them is zero, and
+   answer[1] to answer[3] are 0.
+   Else answer[0] is the refusal's number; answer[1] to answer[3] are the index, line and column of its mark, and both rooms are all zero.
    At 4 (words) and 5 (bytes) the room was too small, and answer[4] and answer[5] say what is needed. At any other refusal they are 0.
-   text, words, bytes and answer must not overlap; a pointer may be anything where its length is 0. */
+   text, words, bytes and answer must not overlap; a pointer may be anything where its length is 0.
+   It takes some 10 KB of stack, whatever the text, and no other memory. It keeps nothing between calls: threads may call it at the same time, each with
+   words, bytes and answer of its own; they may share the text. */
 void tokenglade_scan(const uint8_t *text, size_t text_len, uint32_t *words, size_t words_len, uint8_t *bytes, size_t bytes_len, uint32_t answer[6]);
+
+/* One token at a time. */
+
+/* Words that tokenglade_next keeps from call to call: a state. All zero it is a fresh one. */
+#define TOKENGLADE_STATE 1809
+
+/* Words that it must be lent, for a text of any length: 4,400 records. Up to 4,096 tokens may wait there, and one step of the scan may bring some 256
+   more. */
+#define TOKENGLADE_STREAM_WORDS ((size_t)4400 * TOKENGLADE_RECORD_WORDS)
+
+/* Gives the next token of a text, and returns in every case.
+
+   Begin with a state of zeros. Zero it again to start anew, with the same text or another. What words and bytes hold at first does not matter.
+   At each later call state, words and bytes must hold what the last call left there, the text must be the same, and so must the three lengths. All of
+   them may have moved to other addresses. Where a length changes, a larger one too, nothing is promised; a refusal stays, 5 too.
+
+   A token: token is its record, answer is all zero. Its texts stand in bytes, at the offsets that the record has, and stay there. What stands in bytes
+   behind the texts of the tokens given may be anything.
+   Ended: token and answer are all zero. It comes behind StreamEnd, and again at each later call.
+   Refused: token is all zero, answer[0] is the number, answer[1] to answer[3] are the index, line and column of its mark. It comes again at each later
+   call. Tokens given before stay valid, with their texts. Tokens that were scanned and still wait are never given.
+   answer[4] is always 0; it is kept for a byte place.
+   A text is accepted when its StreamEnd (kind 2) was given, and only then.
+
+   Where tokenglade_scan accepts the text, the tokens given are its tokens, in order. Refusals are those of tokenglade_scan, with these differences:
+   - 1, 2 and 3 come at the first call, before any token; then 52 where words holds fewer than TOKENGLADE_STREAM_WORDS.
+   - A token that counts as a possible key waits, and all behind it wait too, while the scan goes on. A rule that is broken meanwhile is the answer at
+     once.
+   - 51: more than 4,096 tokens wait, the first one counted, and the first one still counts as a possible key. A bracket that stands where a key may
+     stand ("[1, 2]: x") counts as one until it is closed, even where a ':' behind it would come too late to make it a key: on a later line, or more than
+     1,024 characters on. So does a tag or an anchor in front of it. A JSON text of more than 4,096 tokens therefore gets 51: use tokenglade_scan.
+     51 never comes for a list of plain scalars with commas between, however long, that begins on one line with its key and ':', where no bracket is open
+     around them ("seeds: [1, 2, .."). The mark is where the scan stands. 51 comes ahead of rules that are broken further on.
+   - 5: the texts of the tokens scanned so far are more than bytes holds; at index 0, line 1, column 0. It does not say how many bytes are needed.
+     TOKENGLADE_BYTES(b) is always enough.
+   - 4 never comes.
+
+   Where state or words are not what the last call left, a call returns too: nothing outside state, words, bytes, token and answer is written, and nothing
+   outside them and text is read. But what it says may be anything: ended without StreamEnd, or any number, kind, style, mark, offset and length.
+   state, text, words, bytes, token and answer must not overlap; a pointer may be anything where its length is 0.
+   It takes some 2 KB of stack, whatever the text, and no other memory. Threads may call it at the same time, each with a state, words, bytes, token and
+   answer of its own; they may share the text. */
+void tokenglade_next(uint32_t state[TOKENGLADE_STATE], const uint8_t *text, size_t text_len, uint32_t *words, size_t words_len, uint8_t *bytes, size_t bytes_len, uint32_t token[TOKENGLADE_RECORD_WORDS], uint32_t answer[5]);
 
 #ifdef __cplusplus
 }

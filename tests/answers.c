@@ -1,16 +1,13 @@
-// answers: for each line of standard input that begins with a text in hex, prints `HEX => ` and the entry's answer, as tests/vectors/README.md has them.
+// answers: for each line of standard input, which is a text in hex or begins with one and ` => `, prints `HEX => ` and the entry's answer, as
+// tests/vectors/README.md has them. At any other line it ends with status 2.
 #include <stdio.h>
-#include <string.h>
 #include "tokenglade.h"
+#include "vector.h"
 
 enum { LONGEST = 1 << 21 };
 static char line[2 * LONGEST];
 static uint8_t text[LONGEST], bytes[TOKENGLADE_BYTES(LONGEST)];
 static uint32_t words[TOKENGLADE_WORDS(LONGEST)];
-
-static unsigned value(char c) {
-    return c <= '9' ? c - '0' : c - 'a' + 10;
-}
 
 static void print_records(uint32_t count) {
     for (size_t i = 0; i < (size_t)count * TOKENGLADE_RECORD_WORDS; i++)
@@ -32,13 +29,15 @@ static void print_answer(const uint32_t a[6]) {
 
 int main(void) {
     uint32_t answer[6];
-    while (fgets(line, sizeof line, stdin)) {
-        size_t n = strspn(line, "0123456789abcdef") / 2;
-        for (size_t i = 0; i < n; i++)
-            text[i] = (uint8_t)(value(line[2 * i]) * 16 + value(line[2 * i + 1]));
+    for (size_t number = 1; fgets(line, sizeof line, stdin); number++) {
+        size_t n = read_text(line, number, text, LONGEST);
         tokenglade_scan(text, n, words, TOKENGLADE_WORDS(n), bytes, TOKENGLADE_BYTES(n), answer);
         printf("%.*s => ", (int)(2 * n), line);
         print_answer(answer);
     }
-    return 0;
+    if (ferror(stdin)) {
+        perror("standard input");
+        return 2;
+    }
+    return end_of_output();
 }

@@ -1,17 +1,28 @@
 #!/bin/bash
-# run.sh [COUNT]: builds the drivers over the library; COUNT random and damaged texts (default 10,000,000), the vectors, and the public suite where
-# its cases are given by SUITE=FILE.
+# run.sh [COUNT]: builds the drivers over the library; holds its answers against the vectors, and against docs/SUITE.md where the cases of the public
+# suite are given by SUITE=FILE; scans COUNT random and damaged texts (default 10,000,000), and takes the tokens of a fifth as many one at a time; sees
+# that the checks fail where they should.
 set -euo pipefail
+suite=${SUITE:+$(realpath -e "$SUITE")}
 cd "$(dirname "$0")/.."
 out=target/tests
 mkdir -p $out
 bench/native.sh $out
-gcc -O2 -Wall -Wextra -Iinclude tests/fuzz.c -L$out -ltokenglade -o $out/fuzz
-gcc -O2 -Wall -Wextra -Iinclude tests/answers.c -L$out -ltokenglade -o $out/answers
-vectors=$(wc -l < tests/vectors/all.txt)
-[ "$vectors" -gt 0 ] || { echo "no vectors" >&2; exit 1; }
+for driver in fuzz answers stream stream_answers; do
+    gcc -O2 -Wall -Wextra -Iinclude tests/$driver.c -L$out -ltokenglade -o $out/$driver
+done
+python3 tools/vector_files.py tests/vectors/{all,crate,stream}.txt
+cmp tests/vectors/all.txt crates/replay/stdout
+cmp tests/vectors/stream.txt crates/restream/stdout
 $out/answers < tests/vectors/all.txt > $out/answered
 cmp $out/answered tests/vectors/all.txt
-echo "$vectors vectors: the same answers"
-[ -z "${SUITE:-}" ] || python3 tools/suite.py "$SUITE" $out/answers
-$out/fuzz 1 "${1:-10000000}" tests/vectors/all.txt
+$out/stream_answers < tests/vectors/stream.txt > $out/streamed
+cmp $out/streamed tests/vectors/stream.txt
+echo "the library gives the vectors' answers"
+python3 tools/stream_model.py tests/vectors/stream.txt > $out/modelled
+cmp $out/modelled tests/vectors/stream.txt
+[ -z "$suite" ] || python3 tools/suite.py "$suite" $out/answers
+count=${1:-10000000}
+$out/fuzz 1 "$count" tests/vectors/all.txt
+$out/stream 1 $((count / 5)) tests/vectors/{stream,all}.txt
+tests/must_fail.sh

@@ -3,14 +3,16 @@
 
 Holds docs/DIFFERENCES.md against the vectors, by tools/model.py, where each difference is a switch:
 - the model, all switches off, gives the answers of tests/vectors;
-- each row is so: the model has 01's answer with all switches off and saphyr-parser's with all on, as far as the row
-  says what they are, and they differ by the switch that the row is named after;
+- each row is so: its last cell is the model's answer with all switches off, the cell before it saphyr-parser's, as
+  tests/vectors/crate.txt has it (of a text that is not there: the model's with all switches on), and the two differ by
+  the switch that the row is named after. Each switch has a row;
 - each text of tests/vectors/crate.txt, which has saphyr-parser's answers, either agrees or is under listed differences:
   the model gives saphyr-parser's answer by switches that have rows.
 Prints what is not so; each name with the number of texts that need it; and how many texts agree, are under a listed
 difference, are under none. --random N scans N random texts too, which must come to an answer.
 The exit status is 0 where all is so.
 """
+import argparse
 import os
 import random
 import re
@@ -18,17 +20,16 @@ import sys
 from collections import Counter, namedtuple
 
 import model
+import vector_files
 
 ROOT = os.path.dirname(os.path.dirname(os.path.abspath(__file__)))
 VECTORS = os.path.join(ROOT, "tests", "vectors")
+CRATE = os.path.join(VECTORS, "crate.txt")
 DIFFERENCES = os.path.join(ROOT, "docs", "DIFFERENCES.md")
-# the names that rows have for tokens
-KINDS = {"DocStart": model.DOCUMENT_START, "BlockMapStart": model.BLOCK_MAPPING_START, "BlockEnd": model.BLOCK_END,
-         "SeqStart": model.FLOW_SEQUENCE_START, "SeqEnd": model.FLOW_SEQUENCE_END, "MapEnd": model.FLOW_MAPPING_END,
-         "FlowMappingStart": model.FLOW_MAPPING_START, "FlowMappingEnd": model.FLOW_MAPPING_END,
-         "Entry": model.BLOCK_ENTRY, "FlowEntry": model.FLOW_ENTRY, "Key": model.KEY, "Value": model.VALUE,
-         "Scalar": model.SCALAR}
+NAMES = os.path.join(ROOT, "include", "tokenglade_names.h")
 SIGNS = {"\\|": "|", "⏎": "\n", "⇥": "\t", "BOM": model.BOM, "<NUL>": "\0"}
+# longer lists of tokens, and longer texts, are written as their length
+MOST_WRITTEN = 20
 PIECES = [*"abc01 \t\n\r-?:,[]{}#&*!|>'\"%@`~\\.<+é€", model.BOM, "- ", ": ", "? ", "\n ", "\n  ", "---", "...", " #",
           "%C3%A9", "\r\n", "|\n", "\\x41", "a: ", "\n- "]
 
@@ -37,32 +38,59 @@ Row = namedtuple("Row", "name rule text there here")
 Refusal = namedtuple("Refusal", "number mark")
 
 
+def named(what):
+    """The names that the header has for kinds or styles, by number."""
+    with open(NAMES, encoding="ascii") as header:
+        return {int(n): name for n, name in re.findall(rf'TOKENGLADE_{what}\((\d+), "(.*)"\)', header.read())}
+
+
+KINDS, STYLES = named("KIND"), named("STYLE")
+
+
 def unwritten(text):
     """The text that a row writes with signs."""
     return re.sub("|".join(map(re.escape, SIGNS)), lambda m: SIGNS[m[0]], text)
 
 
+def written(text):
+    """A token's text with signs. From U+3000 on characters are written by their codes."""
+    if not 0 < len(text) <= MOST_WRITTEN:
+        return f"{len(text)} characters" if text else "empty"
+    signs = {sign: name for name, sign in SIGNS.items()}
+    return "`" + "".join(signs.get(c) or (c if c < "\u3000" else f"U+{ord(c):04X}") for c in text) + "`"
+
+
+def written_token(token):
+    kind, start, end, *texts, style = token
+    at = str(start[0]) + (f"..{end[0]}" if end != start else "")
+    said = [f"{KINDS[kind]}@{at}"] + ([STYLES[style]] if style else [])
+    return " ".join(said + [written(text) for text in texts if text is not None])
+
+
+def written_answer(got):
+    """An answer as cells have it, without StreamStart and StreamEnd."""
+    if isinstance(got, Refusal):
+        return f"{got.number or 'refused'} at ({','.join(map(str, got.mark))})"
+    if len(got) > MOST_WRITTEN:
+        return f"{len(got)} tokens"
+    return ", ".join(map(written_token, got[1:-1])) or "no tokens"
+
+
 def read_rows():
-    """The rows of all tables; a row without text has None. Those that are not settled have no rule."""
-    rows = []
-    for line in open(DIFFERENCES, encoding="utf-8"):
-        if not line.startswith("|"):
-            continue
-        name, *rule, text, there, here = (cell.strip() for cell in re.split(r"(?<!\\)\|", line)[1:-1])
-        if here in ("01", "---"):
-            continue
-        written = re.fullmatch(r"`(.*)`(?: (\d+) times)?", text)
-        text = written and (unwritten(written[1]) * int(written[2] or 1)).encode()
-        rows.append(Row(name, rule[0] if rule else "not settled", text, there.split(", or ")[0], here))
-    return rows
-
-
-def read_vectors(name):
-    """The lines of a file as (bytes, answer)."""
-    with open(os.path.join(VECTORS, name), encoding="ascii") as lines:
-        for line in lines:
-            text, told = line.rstrip("\n").split(" => ", 1)
-            yield bytes.fromhex(text), told
+    """The rows of all tables, and the lines that are none."""
+    rows, wrong = [], []
+    with open(DIFFERENCES, encoding="utf-8") as lines:
+        table = [line.rstrip() for line in lines if line.startswith("|")]
+    for line in table:
+        cells = [cell.strip() for cell in re.split(r"(?<!\\)\|", line)[1:-1]]
+        text = re.fullmatch(r"`(.+)`(?: ([\d,]+) times)?", cells[2]) if len(cells) == 5 else None
+        if text:
+            times = int((text[2] or "1").replace(",", ""))
+            cells[2] = (unwritten(text[1]) * times).encode()
+            rows.append(Row(*cells))
+        elif cells[-1] not in ("01", "---"):
+            wrong.append(f"no row: {line}")
+    return rows, wrong
 
 
 def crate_answer(told):
@@ -113,54 +141,40 @@ def needed(text, wanted):
     return on
 
 
-def refusal_in(cell):
-    mark = re.search(r"(?:(\d+) at |refus\w+ at |^)\((\d+),(\d+),(\d+)\)", cell)
-    return mark and Refusal(mark[1] and int(mark[1]), tuple(map(int, mark.groups()[1:])))
+def answer_there(text, crate):
+    """What saphyr-parser answers: what is on file, or what the model has. A NUL is refused, if nothing before it is."""
+    if text in crate:
+        return crate[text]
+    before, nul, _ = text.partition(b"\0")
+    got = answer(before, model.SWITCHES)
+    if nul or isinstance(got, Refusal):
+        return Refusal(None, got.mark if isinstance(got, Refusal) else model.mark_behind(before.decode()))
+    return got
 
 
-def contradictions(cell, got):
-    """What a row's cell says of an answer and is not so."""
-    said = refusal_in(cell)
-    if said or isinstance(got, Refusal):
-        return [] if said and alike(said, got) and said.number in (None, got.number) else [str(got)]
-    spans = {(kind, start[0], end[0]) for kind, start, end, *_ in got}
-    bad = [f"no {name}@{start}" for name, start, end in re.findall(r"(\w+)@(\d+)(?:\.\.(\d+))?", cell)
-           if (KINDS[name], int(start), int(end or start)) not in spans]
-    texts = {text for token in got for text in token[3:5]}
-    said = [unwritten(text) for text in re.findall(r"(?:[Ss]calar(?:@[\d.]+)?|tag|quoted|text) `(.*?)`", cell)]
-    said += [chr(int(code, 16)) for code in re.findall(r"U\+(\w+)", cell)]
-    bad += [f"no text {text!r}" for text in said if text not in texts]
-    return bad + [f"{len(got)} tokens" for n in re.findall(r"(\d+) tokens", cell) if int(n) != len(got)]
-
-
-def wrong_row(row):
-    """What is not so in a row. Without text, or with a name that is no switch, there is less to hold it against."""
-    if row.text is None:
-        return []
-    here, there = answer(row.text, model.NONE), answer(row.text, model.SWITCHES)
-    bad = [f"01: {what}" for what in contradictions(row.here, here)]
-    if row.name and row.name not in model.SWITCHES:
-        return bad
-    bad += [f"saphyr-parser: {what}" for what in contradictions(row.there, there)]
+def wrong_row(row, crate):
+    """What is not so in a row."""
+    here, there = answer(row.text, model.NONE), answer_there(row.text, crate)
+    bad = [f"{cell} should be {written_answer(got)}"
+           for got, cell in ((there, row.there), (here, row.here)) if written_answer(got) != cell]
     if bool(row.name) == alike(here, there):
         bad.append("the answers agree" if row.name else "the answers differ")
-    elif row.name and row.name not in needed(row.text, there):
+    elif row.name in model.SWITCHES and row.name not in (needed(row.text, there) or ()):
         bad.append("differs without it")
     return bad
 
 
 def wrong_vectors():
     """The texts of which the model does not give 01's answer."""
-    names = [name for name in sorted(os.listdir(VECTORS)) if name.endswith(".txt") and name != "crate.txt"]
-    return [f"model: {name}: {text.hex()}"
-            for name in names for text, told in read_vectors(name) if model.answer(text) != told]
+    names = [name for name in sorted(vector_files.counts(VECTORS)) if name not in ("crate.txt", "stream.txt")]
+    return [f"model: {name}: {text.hex()}" for name in names
+            for _, text, told in vector_files.read(os.path.join(VECTORS, name)) if model.answer(text) != told]
 
 
-def compare(names):
+def compare(crate, names):
     """How many texts agree, are under listed differences, are under none; which switches they need; what is wrong."""
     count, uses, wrong = Counter(), Counter(), []
-    for text, told in read_vectors("crate.txt"):
-        wanted = crate_answer(told)
+    for text, wanted in crate.items():
         if alike(answer(text, model.NONE), wanted):
             count["agree"] += 1
             continue
@@ -183,21 +197,30 @@ def scan_random(n):
 
 
 def main():
-    rows = read_rows()
+    parser = argparse.ArgumentParser(description=__doc__, formatter_class=argparse.RawDescriptionHelpFormatter)
+    parser.add_argument("--random", metavar="N", type=int, default=0)
+    options = parser.parse_args()
+    try:
+        wrong = wrong_vectors()
+        crate = {text: crate_answer(told) for _, text, told in vector_files.read(CRATE)}
+    except vector_files.Broken as e:
+        sys.exit(str(e))
+    rows, no_rows = read_rows()
     names = {}
     for row in rows:
         if row.name:
             names.setdefault(row.name, row.rule)
-    wrong = wrong_vectors()
-    wrong += [f"row {row.name}: {row.text!r}: {what}" for row in rows for what in wrong_row(row)]
-    count, uses, under_none = compare(names.keys())
+    wrong += no_rows
+    wrong += [f"no row has the name {name}" for name in sorted(model.SWITCHES - names.keys())]
+    wrong += [f"row {row.name}: {row.text[:40]!r}: {what}" for row in rows for what in wrong_row(row, crate)]
+    count, uses, under_none = compare(crate, names.keys())
     wrong += under_none
     for line in wrong:
         print(line)
     for name, rule in names.items():
         print(f"{name} {uses[name] if name in model.SWITCHES else 'not compared':>12}  {rule}")
-    if "--random" in sys.argv:
-        scan_random(int(sys.argv[sys.argv.index("--random") + 1]))
+    if options.random:
+        scan_random(options.random)
     print(f"{count['agree']} agree, {count['listed']} under a listed difference, {count['none']} under none")
     sys.exit(1 if wrong else 0)
 

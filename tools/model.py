@@ -12,7 +12,7 @@ import re
 import sys
 
 SWITCHES = frozenset("S1 S2 S3 P1 P2 P3 P4 P5 P6 R1 R2 T1 T2 T3 T4 V1 V2 V3 V4 V5 C1 C2 C3 C4 C5 C6 C7 C8 "
-                     "G1 G2 G3 M1 Q1 B1 B2 U1 L1".split())
+                     "G1 G2 G3 M1 Q1 B1 B2 U1 L1 L2".split())
 NONE = frozenset()
 MOST_BYTES, MOST_LEVELS, MOST_ENTRIES = 1_048_576, 255, 255
 # the number of a refusal that 01 does not have
@@ -876,9 +876,14 @@ def joined_octets(octets):
     return chr(code)
 
 
-def decode(data):
+def mark_behind(text):
+    lines = ONE_BREAK.split(text)
+    return (len(text), len(lines), len(lines[-1]))
+
+
+def decode(data, on):
     """The characters, or refusals 1 to 3."""
-    if len(data) > MOST_BYTES:
+    if len(data) > MOST_BYTES and "L2" not in on:
         raise Refused(1, ORIGIN)
     try:
         text, number = data.decode(), None
@@ -887,13 +892,12 @@ def decode(data):
     if "\0" in text:
         text, number = text[:text.index("\0")], 3
     if number:
-        lines = ONE_BREAK.split(text)
-        raise Refused(number, (len(text), len(lines), len(lines[-1])))
+        raise Refused(number, mark_behind(text))
     return text
 
 
 def scan(data, on=NONE):
-    return Scanner(decode(data), on).scan()
+    return Scanner(decode(data, on), on).scan()
 
 
 def records(tokens):

@@ -1,6 +1,6 @@
 -- The content's lines, at the places of the code.
 use Prim.Native.Nat.{_+_, _-_, _<_, _≤_, ℕ}
-use mathlib.Core.Bool.{Bool, false, true}
+use mathlib.Core.Bool.{Bool, _&&_, false, true}
 use mathlib.Core.List.{List, [], _++_, _∷_}
 use mathlib.Core.Path.{_∙_, _≡_, ap, refl, sym}
 use native.Mathlib.Omega.{arith}
@@ -10,11 +10,11 @@ use lib.Seq.{length-take-le, sets}
 use borrow.Author.Tests.{ne-eqb}
 use Rattle.yaml_text.specs.declared.Mark.{Mark}
 use Rattle.yaml_text.specs.Class.{is-blank, is-break, is-breakz, is-z, none-left, peek}
-use Rattle.yaml_text.specs.Mark.{along, before-run, break-length, here, new-line, skip-break}
+use Rattle.yaml_text.specs.Mark.{along, break-length, here, new-line, skip-break}
 use Rattle.yaml_text.specs.Mark as definition
 use Rattle.yaml_text.specs.Test.{both-true, by-test, true-false}
-use Rattle.yaml_text.specs.Utf8.{chars}
-use Rattle.yaml_lexeme.specs.Block.{Layout, behind, between, inside, lines-on, margin, opens-content, separator}
+use Rattle.yaml_text.specs.Utf8.{chars, encode}
+use Rattle.yaml_lexeme.specs.Block.{Between, Layout, behind, between, inside, lines-on, margin, opens-content, separator}
 use Rattle.yaml_text.specs.PlaceLaws.{fits-left, run-of-fit}
 use Rattle.chars.specs.declared.mark.Place.{Place}
 use Rattle.chars.specs.View.{Moves, view}
@@ -26,12 +26,12 @@ use Rattle.block_content.specs.declared.Between.the-variants.{Ahead, Beh
 use Rattle.block_content.specs.declared.Content.{Content}
 use Rattle.block_content.specs.declared.Layout.{Layout as CodeLayout}
 use Rattle.block_header.specs.declared.margin.Margin.{Margin}
-use Rattle.block_content.specs.Content.{ContentRead, LineEnd, Opens, ReadsLine, Rests, Settles, content-of, layout-of, line-of, more-of, opens-at, own-of}
-use Rattle.block_content.specs.Lines.{content-from, content-line, content-stop, inside-break, inside-end, line-ends, margin-runs}
+use Rattle.block_content.specs.Content.{LineEnd, Opens, Reads, Rests, Settles, layout-of, line-at, line-of, lines-of, more-of, opens-at, own-of}
+use Rattle.block_content.specs.Lines.{before-lines, behind-line, content-line, content-stop, inside-break, inside-end, line-ends, line-here, lines-from, margin-runs}
 use Rattle.block_header.specs.Margin.{Margins, margin-ends, margin-goes}
 use Rattle.reading.specs.Puts.{Puts, puts-then}
-use Rattle.block_content.specs.Wrote.{Wrote, wrote-none, wrote-text, wrote-then}
 use Rattle.block_content.proofs.Ends.{separator-few}
+use Rattle.block_content.proofs.Wrote.{Wrote, wrote-more, wrote-none}
 
 -- past the break
 
@@ -51,10 +51,34 @@ skip-fewer : (p : definition.Place) → is-break (peek (p .rest) 0) ≡ true →
 skip-fewer p h = rw (skipped p h) (fewer (break-length (p .rest)) (p .rest) h (breaks-some (breaks (p .rest)) h))
 
 inside-skip : (b : Layout) (w : Bool) (p : definition.Place) → is-break (peek (p .rest) 0) ≡ true
-    → content-from b (inside w) p ≡ content-from b (between (behind w 0)) (skip-break p)
-inside-skip b w p h = inside-break b w (p .mark) (breaks (p .rest)) h ∙ ap (content-from b (between (behind w 0))) (sym (skipped p h))
+    → lines-from b (inside w) p ≡ lines-from b (between (behind w 0)) (skip-break p)
+inside-skip b w p h = inside-break b w (p .mark) (breaks (p .rest)) h ∙ ap (lines-from b (between (behind w 0))) (sym (skipped p h))
 
 -- behind a content line
+
+behind-on : (blank : Bool) (k n : ℕ) → lines-on k (behind blank n) ≡ behind blank (n + k)
+unfolding lines-on
+behind-on blank k n = refl
+
+inside-behind : (b : Layout) (w : Bool) (p : definition.Place) → (none-left (p .rest) ≡ false → is-break (peek (p .rest) 0) ≡ true)
+    → lines-from b (inside w) p ≡ lines-from b (between (behind-line b w p .line)) (behind-line b w p .place)
+unfolding behind-line
+inside-behind b w p h =
+    let s = skip-break p in
+    by-test (none-left (p .rest))
+    (λ e. rw (e, behind-line) (inside-end b w (p .mark) (p .rest) e))
+    (λ e. rw (e, behind-line) (inside-skip b w p (h e) ∙ margin-runs b (behind w) (behind-on w) 0 (s .mark) (s .rest)))
+
+-- over one line
+line-before : (b : Layout) (l : Between) (p : definition.Place) → margin-goes (b .column) (p .mark) (peek (p .rest) 0) ≡ false
+    → (eqb (p .mark .col) (b .column) && opens-content (p .mark) (p .rest)) ≡ true
+    → lines-from b (between l) p ≡ before-lines (line-here b l p .text) (lines-from b (between (line-here b l p .line)) (line-here b l p .place))
+line-before b l p e f =
+    let blank = is-blank (peek (p .rest) 0) in
+    let m = p .mark in
+    let cs = p .rest in
+    content-line b l m cs e f
+    ∙ ap (before-lines (separator (b .literal) blank l ++ line m cs .text)) (inside-behind b blank (line m cs .place) (line-ends m cs))
 
 no-char : (column : ℕ) (m : Mark) (cs : List ℕ) → none-left cs ≡ true → margin-goes column m (peek cs 0) ≡ false
 unfolding none-left is-break
@@ -63,35 +87,28 @@ no-char column m (c ∷ cs) h = true-false (sym h)
 
 pub rests-end : {text : List ℕ} {e : Place} {count : ℕ} (b : CodeLayout) (blank : Bool) → LineEnd text e count → none-left (chars (drop (e .at) text)) ≡ true
     → Rests text b blank e count (record { place = e; line = Ahead 0; count = count })
-unfolding line-of own-of more-of
+unfolding line-of own-of more-of behind-line
 rests-end {text} {e} b blank l h =
     let cs = chars (drop (e .at) text) in
     record {
       kept = refl;
-      goes = inside-end (layout-of b) blank (e .mark) cs h;
+      line = rw (h, behind-line);
+      place = rw (h, behind-line);
       settles = record { stands = l .stands; short = l .short; few = omega (arith, l .few); settled = no-char (b .column) (e .mark) cs h };
       onward = omega arith;
     }
-
-behind-on : (blank : Bool) (k n : ℕ) → lines-on k (behind blank n) ≡ behind blank (n + k)
-unfolding lines-on
-behind-on blank k n = refl
 
 pub rests-margin : {text : List ℕ} {e s : Place} {count : ℕ} {g : Margin} (b : CodeLayout) (blank : Bool) → LineEnd text e count
     → none-left (chars (drop (e .at) text)) ≡ false → Moves text e s (skip-break (view text e))
     → Margins text s g (margin (b .column) 0 (s .mark) (chars (drop (s .at) text)))
     → Rests text b blank e count (record { place = g .place; line = Behind blank (g .breaks); count = count })
-unfolding line-of own-of more-of
+unfolding line-of own-of more-of behind-line
 rests-margin {text} {e} {s} {count} {g} b blank l h k x =
-    let w = l .ends h in
-    let d = margin (b .column) 0 (s .mark) (chars (drop (s .at) text)) in
-    let on = moves-some k (skip-fewer (view text e) w) in
+    let on = moves-some k (skip-fewer (view text e) (l .ends h)) in
     record {
       kept = refl;
-      goes = inside-skip (layout-of b) blank (view text e) w
-          ∙ ap (content-from (layout-of b) (between (behind blank 0))) (sym (k .same))
-          ∙ margin-runs (layout-of b) (behind blank) (behind-on blank) 0 (s .mark) (chars (drop (s .at) text))
-          ∙ rw (x .breaks) (ap (content-from (layout-of b) (between (behind blank (d .breaks)))) (sym (x .moves .same)));
+      line = rw (h, behind-line, ← (k .same), x .breaks);
+      place = rw (h, behind-line, ← (k .same)) (x .moves .same);
       settles = record {
         stands = x .moves .stands;
         short = l .short;
@@ -140,41 +157,49 @@ module _ {text : List ℕ} {b : CodeLayout} {c : Content} {e : Place} (o : Opens
 
     pub turns-line : {after : List ℕ} {r : Content} → blank ≡ is-blank (peek (chars (drop (c .place .at) text)) 0)
         → after ≡ sets mid n (take (e .at - c .place .at) (drop (c .place .at) text)) → Rests text b blank e (n + (e .at - c .place .at)) r
-        → ReadsLine text b before c after r
+        → Reads text b before c after r (line-at text b c) × (c .place .at < r .place .at)
     turns-line {after} {r} f g x =
         let at = c .place .at in
-        let m = c .place .mark in
-        let cs = chars (drop at text) in
         let k = e .at - at in
         let u : k ≤ length (drop at text) = omega (arith, length-drop at text, s .moves .stands .within) in
-        let t : Puts mid n after (n + k) (line m cs .text) =
-        record { bytes = rw (s .bytes) g; next = rw (s .bytes, length-take-le k (drop at text) u) } in
-        let v : content-of text b c ≡ before-run (separator (b .literal) blank (line-of (c .line)) ++ line m cs .text) (content-of text b r) =
-        rw (← f) at (content-line (layout-of b) (line-of (c .line)) m cs (o .settles .settled) (o .opens))
-        ∙ ap (before-run (separator (b .literal) blank (line-of (c .line)) ++ line m cs .text))
-        (ap (content-from (layout-of b) (inside blank)) (sym (s .moves .same)) ∙ x .goes) in
-        record {
-          wrote = rw (x .kept) (wrote-text (puts-then p t) v);
-          settles = x .settles;
-          onward = omega (arith, line-onward, x .onward);
-        }
+        let t : Puts mid n after (n + k) (line (c .place .mark) (chars (drop at text)) .text) =
+        record { bytes = rw (s .bytes) g; next = rw (s .bytes, length-take-le k (drop at text) u) } in (
+          record {
+            puts = rw (x .kept, ← f) (puts-then p t);
+            line = x .line ∙ rw (f, s .moves .same);
+            place = x .place ∙ rw (f, s .moves .same);
+            settles = x .settles;
+          },
+          omega (arith, line-onward, x .onward),
+        )
 
 -- the loop over content lines, from c
 pub record Going (text : List ℕ) (b : CodeLayout) (before : List ℕ) (c : Content) (out : List ℕ) (k : Content) : Type 0 where
   pub size : length out ≡ length before
-  pub wrote : Wrote before (c .count) (content-of text b c) out (k .count) (content-of text b k)
+  pub wrote : Wrote before (c .count) (lines-of text b c) out (k .count) (lines-of text b k)
   pub settles : Settles text b k
-  pub onward : c .place .at ≤ k .place .at
 
 pub going-start : {text before : List ℕ} {b : CodeLayout} {c : Content} → Settles text b c → Going text b before c before c
-going-start s = record { size = refl; wrote = wrote-none refl; settles = s; onward = omega arith }
+going-start s = record { size = refl; wrote = wrote-none; settles = s }
 
-pub going-more : {text before out next : List ℕ} {b : CodeLayout} {c k l : Content} → Going text b before c out k → length next ≡ length out
-    → ReadsLine text b out k next l → Going text b before c next l
-going-more g e t =
-    record { size = e ∙ g .size; wrote = wrote-then (g .wrote) (t .wrote); settles = t .settles; onward = omega (arith, g .onward, t .onward) }
+pub going-more : {text before out next : List ℕ} {b : CodeLayout} {c k l : Content} → Going text b before c out k → opens-at text b k ≡ true → length next ≡ length out
+    → Reads text b out k next l (line-at text b k) → Going text b before c next l
+going-more {text} {b = b} {k = k} {l = l} g o e t =
+    let y = line-at text b k in
+    let v = line-before (layout-of b) (line-of (k .line)) (view text (k .place)) (g .settles .settled) o in
+    let u : lines-of text b l ≡ lines-from (layout-of b) (between (y .line)) (y .place) =
+    ap (λ (x : Between). lines-from (layout-of b) (between x) (view text (l .place))) (t .line) ∙ ap (lines-from (layout-of b) (between (y .line))) (t .place) in
+    record { size = e ∙ g .size; wrote = wrote-more (g .wrote) (t .puts) (v ∙ ap (before-lines (y .text)) (sym u)); settles = t .settles }
 
-pub going-done : {text before out : List ℕ} {b : CodeLayout} {c k : Content} → Going text b before c out k → opens-at text b k ≡ false → ContentRead text b before c out k
+pub going-done : {text before out : List ℕ} {b : CodeLayout} {c k : Content} → Going text b before c out k → opens-at text b k ≡ false
+    → Reads text b before c out k (lines-of text b c)
+unfolding encode
 going-done {text} {b = b} {k = k} g e =
     let stop = content-stop (layout-of b) (line-of (k .line)) (k .place .mark) (chars (drop (k .place .at) text)) (g .settles .settled) e in
-    record { wrote = wrote-then (g .wrote) (wrote-none stop); settles = g .settles; onward = g .onward }
+    let w = rw stop at (g .wrote) in
+    record {
+      puts = record { bytes = sym (w .text); next = omega (arith, w .size) };
+      line = sym (w .line);
+      place = sym (w .place);
+      settles = g .settles;
+    }

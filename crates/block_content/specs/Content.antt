@@ -11,7 +11,7 @@ use Rattle.yaml_text.specs.Mark.{Run}
 use Rattle.yaml_text.specs.Pick.{pick}
 use Rattle.yaml_text.specs.Utf8.{chars}
 use Rattle.block_header.specs.Margin.{margin-goes}
-use Rattle.yaml_lexeme.specs.Block.{ahead, behind, between, content-end, inside, opens-content}
+use Rattle.yaml_lexeme.specs.Block.{ahead, behind, between, opens-content}
 use Rattle.yaml_lexeme.specs.Block as definition
 use Rattle.yaml_lexeme.specs.Fold.{fold}
 use Rattle.chars.specs.declared.mark.Place.{Place}
@@ -21,8 +21,8 @@ use Rattle.block_content.specs.declared.Between.the-variants.{Ahead, Beh
 use Rattle.block_content.specs.declared.Content.{Content}
 use Rattle.block_content.specs.declared.Layout.{Layout}
 use Rattle.block_header.specs.declared.margin.Margin.{Margin}
-use Rattle.block_content.specs.Lines.{content-from}
-use Rattle.block_content.specs.Wrote.{Wrote}
+use Rattle.block_content.specs.Lines.{ContentLines, behind-line, content-from, line-here, lines-from}
+use Rattle.reading.specs.Puts.{Puts}
 
 abbrev pub layout-of : Layout → definition.Layout
 layout-of b = record { literal = b .literal; chomping = b .chomping; column = b .column }
@@ -51,8 +51,9 @@ behind-breaks keeps n = pick keeps (replicate (suc n) line-feed) (fold (suc n))
 abbrev pub content-at : List ℕ → Layout → definition.Line → Place → Run
 content-at text b l p = content-from (layout-of b) l (view text p)
 
-abbrev pub content-of : List ℕ → Layout → Content → Run
-content-of text b c = content-at text b (between (line-of (c .line))) (c .place)
+-- the same without its end
+abbrev pub lines-of : List ℕ → Layout → Content → ContentLines
+lines-of text b c = lines-from (layout-of b) (between (line-of (c .line))) (view text (c .place))
 
 -- the reading stands behind a margin of a text that is short enough, with fewer bytes of text, line ends and all, than it has read
 pub record Settles (text : List ℕ) (b : Layout) (c : Content) : Type 0 where
@@ -69,11 +70,16 @@ pub record Opens (text : List ℕ) (b : Layout) (c : Content) : Type 0 where
   pub settles : Settles text b c
   pub opens : opens-at text b c ≡ true
 
--- from c to r, by whole lines
-pub record ReadsLine (text : List ℕ) (b : Layout) (before : List ℕ) (c : Content) (after : List ℕ) (r : Content) : Type 0 where
-  pub wrote : Wrote before (c .count) (content-of text b c) after (r .count) (content-of text b r)
+-- from c on the text of y was written, and r stands behind it
+pub record Reads (text : List ℕ) (b : Layout) (before : List ℕ) (c : Content) (after : List ℕ) (r : Content) (y : ContentLines) : Type 0 where
+  pub puts : Puts before (c .count) after (r .count) (y .text)
+  pub line : line-of (r .line) ≡ y .line
+  pub place : view text (r .place) ≡ y .place
   pub settles : Settles text b r
-  pub onward : c .place .at < r .place .at
+
+-- over one line
+abbrev pub line-at : List ℕ → Layout → Content → ContentLines
+line-at text b c = line-here (layout-of b) (line-of (c .line)) (view text (c .place))
 
 -- a content line ended at p
 pub record LineEnd (text : List ℕ) (p : Place) (count : ℕ) : Type 0 where
@@ -85,16 +91,11 @@ pub record LineEnd (text : List ℕ) (p : Place) (count : ℕ) : Type 0 where
 -- behind the break there, and the margin
 pub record Rests (text : List ℕ) (b : Layout) (blank : Bool) (p : Place) (count : ℕ) (r : Content) : Type 0 where
   pub kept : r .count ≡ count
-  pub goes : content-at text b (inside blank) p ≡ content-of text b r
+  pub line : line-of (r .line) ≡ behind-line (layout-of b) blank (view text p) .line
+  pub place : view text (r .place) ≡ behind-line (layout-of b) blank (view text p) .place
   pub settles : Settles text b r
   pub onward : p .at ≤ r .place .at
 
 -- before the first content line
 abbrev pub first-of : Margin → Content
 first-of g = record { place = g .place; line = Ahead (g .breaks); count = 0 }
-
--- the content is read up to r, and its end is left to write
-pub record ContentRead (text : List ℕ) (b : Layout) (before : List ℕ) (c : Content) (after : List ℕ) (r : Content) : Type 0 where
-  pub wrote : Wrote before (c .count) (content-of text b c) after (r .count) (content-end (layout-of b) (between (line-of (r .line))) (view text (r .place)))
-  pub settles : Settles text b r
-  pub onward : c .place .at ≤ r .place .at

@@ -2,12 +2,13 @@
 ghost use Prim.Native.Nat.{_+_, _<_, _^_, _≤_};
 ghost use mathlib.Core.Path.{_≡_};
 ghost use lib.ListN.{drop, replicate};
+ghost use Rattle.yaml_text.specs.Char.{line-feed};
 ghost use Rattle.yaml_text.specs.Class.{none-left};
 ghost use Rattle.yaml_text.specs.Utf8.{chars};
 ghost use Rattle.yaml_lexeme.specs.Block.{opens-content, separator};
 ghost use Rattle.yaml_lexeme.specs.Block as definition;
 ghost use Rattle.reading.specs.Puts.{Puts};
-ghost use Rattle.block_content.specs.Content.{ContentRead, LineEnd, Opens, ReadsLine, Rests, Settles, behind-breaks, first-of, line-of, more-of, own-of, pending};
+ghost use Rattle.block_content.specs.Content.{LineEnd, Opens, Reads, Rests, Settles, behind-breaks, first-of, line-at, line-of, lines-of, more-of, own-of, pending};
 use block_header::margin::Margin;
 use block_header::margin::skip_margin;
 use chars::class::is_blank;
@@ -115,7 +116,7 @@ fn after_line(text: &[u8], b: Layout, blank: bool, e: Place, count: usize) -> Co
 // A content line, past its break and the margin behind it.
 fn content_line(text: &[u8], b: Layout, c: Content, out: &mut [u8]) -> Content
     requires { ⌜ Opens (now text) b c ⌝ }
-    ensures { λ r. ⌜ ReadsLine (now (text .entry)) b (now (out .entry)) c (now (out .exit)) r ⌝ }
+    ensures { λ r. ⌜ Reads (now (text .entry)) b (now (out .entry)) c (now (out .exit)) r (line-at (now (text .entry)) b c) × (c .place .at < r .place .at) ⌝ }
 {
     let p = c.place;
     let l = c.line;
@@ -128,10 +129,10 @@ fn content_line(text: &[u8], b: Layout, c: Content, out: &mut [u8]) -> Content
     after_line(text, b, blank, e, n + (to - at))
 }
 
-// The content from behind the first margin on.
+// The content from behind the first margin on, without its end.
 pub fn read_content(text: &[u8], b: Layout, from: Margin, out: &mut [u8]) -> Content
     requires { ⌜ Settles (now text) b (first-of from) ⌝ }
-    ensures { λ r. ⌜ ContentRead (now (text .entry)) b (now (out .entry)) (first-of from) (now (out .exit)) r ⌝ }
+    ensures { λ r. ⌜ Reads (now (text .entry)) b (now (out .entry)) (first-of from) (now (out .exit)) r (lines-of (now (text .entry)) b (first-of from)) ⌝ }
 {
     let q = from.place;
     let mut c = Content {
@@ -158,7 +159,7 @@ pub fn one_if(b: bool) -> u32
 // How many line feeds stand behind the content. last: the text ends in a line that has no break.
 pub fn chomped(chomping: Chomping, last: bool, line: Between) -> u32
     requires { ⌜ pending line < 2 ^ 31 ⌝ }
-    ensures { λ r. ⌜ (definition.chomped chomping last (definition.between (line-of line)) ≡ replicate r 10) × (r ≤ pending line + 1) ⌝ }
+    ensures { λ r. ⌜ (definition.chomped chomping last (definition.between (line-of line)) ≡ replicate r line-feed) × (r ≤ pending line + 1) ⌝ }
 {
     let extra = one_if(last);
     match chomping {

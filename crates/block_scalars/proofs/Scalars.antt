@@ -2,7 +2,7 @@
 use Prim.Native.Nat.{_%_, _+_, _^_, _≤_, max, ℕ}
 use mathlib.Core.Bool.{Bool, _&&_}
 use mathlib.Core.List.{List}
-use mathlib.Core.Path.{_≡_, refl}
+use mathlib.Core.Path.{_∙_, _≡_, ap, refl, sym}
 use native.Mathlib.Omega.{arith}
 use lib.Dec.{leb, ltb}
 use lib.ListN.{drop, length, replicate}
@@ -10,14 +10,15 @@ use lib.Seq.{sets}
 use borrow.Author.Tests.{ne-eqb}
 use Rattle.yaml_text.specs.declared.Mark.{Mark}
 use Rattle.yaml_text.specs.Class.{none-left}
-use Rattle.yaml_text.specs.Mark.{Run}
+use Rattle.yaml_text.specs.Mark.{Run, before-run}
+use Rattle.yaml_text.specs.Mark as definition
 use Rattle.yaml_text.specs.Refusal.{got}
 use Rattle.yaml_text.specs.Utf8.{chars, encode}
 use Rattle.yaml_lexeme.specs.declared.Chomping.{Chomping}
 use Rattle.yaml_lexeme.specs.declared.Chomping.the-variants.{Clip, Keep, Strip}
-use Rattle.yaml_lexeme.specs.Block.{between, chomped, no-content, one-if}
+use Rattle.yaml_lexeme.specs.Block.{Between, ahead, between, chomped, content-end, no-content, one-if}
 use Rattle.yaml_lexeme.specs.Record.{laid}
-use Rattle.yaml_lexeme.specs.Token.{kind-bytes}
+use Rattle.yaml_lexeme.specs.Token.{kind-bytes, size}
 use Rattle.chars.specs.declared.mark.Place.{Place}
 use Rattle.chars.specs.View.{Stands, view}
 use Rattle.reading.specs.declared.Reading.{Reading}
@@ -26,10 +27,10 @@ use Rattle.block_scalars.specs.declared.Block.{Block}
 use Rattle.block_content.specs.declared.Content.{Content}
 use Rattle.block_content.specs.declared.Layout.{Layout}
 use Rattle.block_header.specs.declared.margin.Margin.{Margin}
-use Rattle.block_content.specs.Content.{ContentRead, Settles, first-of, line-of, more-of, own-of, pending}
-use Rattle.block_scalars.specs.Scan.{content-lexeme, empty-lexeme, scalar-lexeme, scalar-token}
-use Rattle.reading.specs.Puts.{Puts, puts-breaks}
-use Rattle.block_content.specs.Wrote.{wrote-done}
+use Rattle.block_content.specs.Content.{Reads, Settles, first-of, layout-of, line-of, lines-of, more-of, own-of, pending}
+use Rattle.block_content.specs.Lines.{content-with-end}
+use Rattle.block_scalars.specs.Scan.{Empties, content-lexeme, empty-lexeme, empty-text, scalar-lexeme, scalar-token}
+use Rattle.reading.specs.Puts.{Puts, puts-breaks, puts-then}
 use Rattle.block_content.proofs.Ends.{last-replicate}
 
 pub scalar-lexed : {text before after : List ℕ} {n : ℕ} {r : Reading} {p : Place} {d : Run} (k : Block) (start : Mark) → r ≡ scalar-token k n start p
@@ -48,7 +49,7 @@ scalar-lexed {text} {n = n} {d = d} k start f w e h few some short =
 
 -- the content, chomped
 pub content-lexed : {text before mid after : List ℕ} {n j : ℕ} {r : Reading} {c : Content} {last : Bool} (k : Block) (b : Layout) (g : Margin)
-    → r ≡ scalar-token k n (g .place .mark) (c .place) → ContentRead text b before (first-of g) mid c
+    → r ≡ scalar-token k n (g .place .mark) (c .place) → Reads text b before (first-of g) mid c (lines-of text b (first-of g))
     → (chomped (b .chomping) last (between (line-of (c .line))) ≡ replicate j 10) × (j ≤ pending (c .line) + 1)
     → last ≡ (none-left (chars (drop (c .place .at) text)) && leb (max (b .column) 1) (c .place .mark .col))
     → (after ≡ sets mid (c .count) (replicate j 10)) × (n ≡ c .count + j)
@@ -56,11 +57,15 @@ pub content-lexed : {text before mid after : List ℕ} {n j : ℕ} {r : Reading}
 unfolding line-of
 content-lexed {text} {before} {mid} {after} {n} {j} {c = c} k b g f x y z w =
     let s = x .settles in
+    let m = g .place .mark in
     let last = none-left (chars (drop (c .place .at) text)) && leb (max (b .column) 1) (c .place .mark .col) in
     let e : chomped (b .chomping) last (between (line-of (c .line))) ≡ replicate j 10 = rw z at (y .0) in
     let t : Puts mid (c .count) after n (chomped (b .chomping) last (between (line-of (c .line)))) = rw e (puts-breaks j w) in
-    let p = wrote-done (x .wrote) t in
-    scalar-lexed k (g .place .mark) f p (x .wrote .place) (s .stands) (omega (arith, s .few, y .1, w .1)) (omega (arith, s .few)) (s .short)
+    let v = lines-of text b (first-of g) in
+    let l = content-with-end (layout-of b) (between (ahead (g .breaks))) m (chars (drop (g .place .at) text))
+    ∙ ap (λ (q : Between). before-run (v .text) (content-end (layout-of b) (between q) (v .place))) (sym (x .line))
+    ∙ ap (λ (p : definition.Place). before-run (v .text) (content-end (layout-of b) (between (line-of (c .line))) p)) (sym (x .place)) in
+    rw l (scalar-lexed k m f (puts-then (x .puts) t) refl (s .stands) (omega (arith, s .few, y .1, w .1)) (omega (arith, s .few)) (s .short))
 
 -- no content
 
@@ -81,12 +86,18 @@ module _ {k : Chomping} (n : ℕ) (part : Bool) where
   unfolding no-content
   none-keep e f = rw (e, ne-eqb n 0 f)
 
-pub empty-lexed : {text before after : List ℕ} {n j : ℕ} {r : Reading} {part : Bool} (k : Block) (b : Layout) (g : Margin)
-    → r ≡ scalar-token k n (k .start) (g .place) → Settles text b (first-of g)
-    → (no-content (b .chomping) (g .breaks) part ≡ replicate j 10) × (j ≤ g .breaks + 1)
+pub empty-said : {before after : List ℕ} {n j : ℕ} {r : Reading} {part : Bool} (k : Block) (b : Layout) (g : Margin)
+    → r ≡ scalar-token k n (k .start) (g .place) → (no-content (b .chomping) (g .breaks) part ≡ replicate j 10) × (j ≤ g .breaks + 1)
     → part ≡ (ltb (k .start .line) (g .place .mark .line) && ltb 0 (g .place .mark .col))
-    → (after ≡ sets before 0 (replicate j 10)) × (n ≡ 0 + j) → Lexes text before after (k .used) r (got (empty-lexeme text k b g))
+    → (after ≡ sets before 0 (replicate j 10)) × (n ≡ 0 + j) → Empties k b g before after r
+empty-said {n = n} {j} k b g f y z w =
+    let e : empty-text k b g ≡ replicate j 10 = rw z at (y .0) in
+    let p = puts-breaks j w in
+    let l : n ≡ size (replicate j 10) = omega (arith, p .next) in
+    record { same = rw e (f ∙ rw l); bytes = rw e (p .bytes); few = rw e (omega (arith, l, y .1, w .1)) }
+
+pub empty-lexed : {text before after : List ℕ} {r : Reading} (k : Block) (b : Layout) (g : Margin) → Empties k b g before after r → Settles text b (first-of g)
+    → Lexes text before after (k .used) r (got (empty-lexeme text k b g))
 unfolding own-of more-of
-empty-lexed {text} {j = j} k b g f s y z w =
-    let e : no-content (b .chomping) (g .breaks) (ltb (k .start .line) (g .place .mark .line) && ltb 0 (g .place .mark .col)) ≡ replicate j 10 = rw z at (y .0) in
-    scalar-lexed k (k .start) f (rw e (puts-breaks j w)) refl (s .stands) (omega (arith, s .few, y .1, w .1)) (omega (arith, s .few)) (s .short)
+empty-lexed k b g e s =
+    scalar-lexed k (k .start) (e .same) (record { bytes = e .bytes; next = omega arith }) refl (s .stands) (omega (arith, s .few, e .few)) (omega (arith, s .few)) (s .short)

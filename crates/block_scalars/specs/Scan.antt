@@ -1,10 +1,11 @@
 -- What code answers for a block scalar, held against the definition, part by part.
-use Prim.Native.Nat.{_%_, _<_, _^_, _≤_, ℕ}
+use Prim.Native.Nat.{_%_, _+_, _<_, _^_, _≤_, ℕ}
 use mathlib.Core.Bool.{_&&_, not}
 use mathlib.Core.List.{List}
 use mathlib.Core.Path.{_≡_}
 use lib.Dec.{eqb, ltb}
 use lib.ListN.{length}
+use lib.Seq.{sets}
 use Rattle.yaml_text.specs.declared.Mark.{Mark}
 use Rattle.yaml_text.specs.Char.{tab}
 use Rattle.yaml_text.specs.Class.{is-breakz}
@@ -12,13 +13,14 @@ use Rattle.yaml_text.specs.Mark.{Run, look, skip-break, skip-by}
 use Rattle.yaml_text.specs.Mark as place
 use Rattle.yaml_text.specs.Pick.{pick}
 use Rattle.yaml_text.specs.Refusal.{Read, _>>=_, need}
+use Rattle.yaml_text.specs.Utf8.{encode}
 use Rattle.yaml_lexeme.specs.declared.Kind.the-variants as kind
 use Rattle.yaml_lexeme.specs.declared.Style.{Style}
 use Rattle.yaml_lexeme.specs.declared.Style.the-variants.{Folded, Literal}
 use Rattle.yaml_lexeme.specs.Block.{ahead, between, block-content, content-column, indicators, margin, no-content, scan-block-scalar}
 use Rattle.yaml_lexeme.specs.Block as definition
 use Rattle.yaml_lexeme.specs.Gap.{blanks-and-comment}
-use Rattle.yaml_lexeme.specs.Token.{Lexeme, Scalar, lexeme}
+use Rattle.yaml_lexeme.specs.Token.{Lexeme, Scalar, lexeme, size}
 use Rattle.chars.specs.declared.mark.Place.{Place}
 use Rattle.chars.specs.View.{Stands, view}
 use Rattle.reading.specs.declared.Reading.{Reading}
@@ -43,13 +45,18 @@ scalar-lexeme k start r = lexeme (Scalar (style-of k) (r .text)) start (r .place
 abbrev pub content-lexeme : List ℕ → Block → Layout → Margin → Lexeme
 content-lexeme text k b g = scalar-lexeme k (g .place .mark) (content-at text b (between (ahead (g .breaks))) (g .place))
 
+-- the text of a scalar without content
+abbrev pub empty-text : Block → Layout → Margin → List ℕ
+empty-text k b g = no-content (b .chomping) (g .breaks) (ltb (k .start .line) (g .place .mark .line) && ltb 0 (g .place .mark .col))
+
 abbrev pub empty-lexeme : List ℕ → Block → Layout → Margin → Lexeme
-empty-lexeme text k b g =
-    scalar-lexeme k (k .start)
-    (record {
-      text = no-content (b .chomping) (g .breaks) (ltb (k .start .line) (g .place .mark .line) && ltb 0 (g .place .mark .col));
-      place = view text (g .place);
-    })
+empty-lexeme text k b g = scalar-lexeme k (k .start) (record { text = empty-text k b g; place = view text (g .place) })
+
+-- what code answers and writes for it, in no more bytes than lines ended, and one
+pub record Empties (k : Block) (b : Layout) (g : Margin) (before after : List ℕ) (r : Reading) : Type 0 where
+  pub same : r ≡ scalar-token k (size (empty-text k b g)) (k .start) (g .place)
+  pub bytes : after ≡ sets before 0 (encode (empty-text k b g))
+  pub few : size (empty-text k b g) ≤ g .breaks + 1
 
 abbrev pub margin-of : List ℕ → Margin → definition.Margin
 margin-of text g = record { breaks = g .breaks; place = view text (g .place) }

@@ -1,8 +1,8 @@
 // K7: block scalars (29 to 32).
-ghost use Prim.Native.Nat.{_+_, _<_, _^_, _≤_, ℕ};
-ghost use mathlib.Core.List.{List};
+ghost use Prim.Native.Nat.{_+_, _<_, _^_, _≤_};
 ghost use mathlib.Core.Path.{_≡_};
 ghost use lib.ListN.{replicate};
+ghost use Rattle.yaml_text.specs.Char.{line-feed};
 ghost use Rattle.yaml_text.specs.Pick.{pick};
 ghost use Rattle.yaml_text.specs.Refusal.{got};
 ghost use Rattle.yaml_lexeme.specs.declared.Style.the-variants.{Folded, Literal};
@@ -10,7 +10,7 @@ ghost use Rattle.yaml_lexeme.specs.Block as definition;
 ghost use Rattle.chars.specs.View.{view};
 ghost use Rattle.reading.specs.Reading.{Indicated, Lexes, first-at};
 ghost use Rattle.block_content.specs.Content.{Settles, first-of, layout-of};
-ghost use Rattle.block_scalars.specs.Scan.{HeaderRead, after-header, content-lexeme, empty-lexeme, header-end, header-of, margin-of, scalar-token, under-header};
+ghost use Rattle.block_scalars.specs.Scan.{Empties, HeaderRead, after-header, content-lexeme, header-end, header-of, margin-of, scalar-token, under-header};
 use block_content::Layout;
 use block_content::chomped;
 use block_content::ends_at;
@@ -64,7 +64,10 @@ fn scalar(k: Block, n: usize, start: Mark, p: Place) -> Reading
 {
     let end = p.mark;
     reading::got(
-        Kind::Scalar(block_style(k.literal), text_at(k.used, n)),
+        Kind::Scalar {
+            style: block_style(k.literal),
+            text: text_at(k.used, n),
+        },
         start,
         end,
         p,
@@ -90,7 +93,7 @@ fn content_scalar(text: &[u8], k: Block, b: Layout, g: Margin, out: &mut [u8]) -
 
 // How many line feeds the text is where the whole text ends before any content, n lines after the header's. part: in a line that is not empty.
 fn no_content(chomping: Chomping, n: u32, part: bool) -> u32
-    ensures { λ r. ⌜ (definition.no-content chomping n part ≡ replicate r 10) × (r ≤ n + 1) ⌝ }
+    ensures { λ r. ⌜ (definition.no-content chomping n part ≡ replicate r line-feed) × (r ≤ n + 1) ⌝ }
 {
     match chomping {
         Chomping::Strip => 0,
@@ -106,7 +109,7 @@ fn no_content(chomping: Chomping, n: u32, part: bool) -> u32
 
 // The scalar of a text that ends before any content.
 fn empty_scalar(k: Block, b: Layout, g: Margin, out: &mut [u8]) -> Reading
-    ensures { λ r. ⌜ ((text : List ℕ) → Settles text b (first-of g) → Lexes text (now (out .entry)) (now (out .exit)) (k .used) r (got (empty-lexeme text k b g))) ⌝ }
+    ensures { λ r. ⌜ Empties k b g (now (out .entry)) (now (out .exit)) r ⌝ }
 {
     let p = g.place;
     let m = k.start;

@@ -35,7 +35,7 @@ use Rattle.states.specs.declared.State.{State}
 use Rattle.states.specs.Answer.{fetch-quiet}
 use Rattle.states.specs.Brief.{brief-fetched}
 use Rattle.states.specs.Fetch.{FetchesQuiet, OneByte}
-use Rattle.states.specs.State.{KeysLow, s-with-indents, s-with-level, state-of}
+use Rattle.states.specs.State.{s-with-indents, s-with-level, state-of}
 use Rattle.brackets.specs.Emit.{emit-bracket, goes-past, past-bracket}
 
 -- the kinds, none of which has text
@@ -91,11 +91,11 @@ module _ {text : List ℕ} {p : Place} (h : Stands text p) (b : OneByte text p) 
 -- from the state s, behind the token with the indents i at the flow level l; from the words a to e, which are to be u
 pub emits-to : {limits : Limits} {text a e u : List ℕ} {n : Counts} {s : State} {i : Indents} {l : ℕ} {k : Kind} {c : held.Kind} {d : Read News} {r : Reached} {next : Place} (implicit last : Bool)
     → Stands text (s .place) → OneByte text (s .place) → Past text (s .place) r → r ≡ reached.To next → Textless k c
-    → Low (limits .entries) 1_048_577 e i → l ≤ limits .levels → KeysLow e
+    → Low (limits .entries) i → l ≤ limits .levels
     → d ≡ emit-bracket k implicit last (state-of text e (n .count) (s-with-level (s-with-indents s i) l)) → e ≡ u
     → FetchesQuiet limits text a e u n s d (brief-fetched (goes-past (s-with-level (s-with-indents s i) l) implicit c next last))
 unfolding emit-bracket seen-place _>>=_ laid-events
-emits-to {text = text} {e = e} {n = n} {s} {i} {l} {k} {next = next} implicit last h b w q z low deep keys tells words =
+emits-to {text = text} {e = e} {n = n} {s} {i} {l} {k} {next = next} implicit last h b w q z low deep tells words =
     let m = s .place .mark in
     let token = put (record { kind = k; start = m; end = next .mark }) ∷ [] in
     let on = past-stands h b w q in
@@ -106,7 +106,7 @@ emits-to {text = text} {e = e} {n = n} {s} {i} {l} {k} {next = next} implicit la
     (tells ∙ rw (scanned h b w k, q))
     refl
     (record {
-      sane = record { stands = on .0; low = low; deep = deep; keys = keys };
+      sane = record { stands = on .0; low = low; deep = deep };
       onward = on .1;
       size = omega (arith, on .1);
       closed = omega arith;

@@ -64,13 +64,13 @@ module _ {limits : Limits} {entry : Bool} {a : List ℕ} {s : State} (h : Fits l
   unfolding bracket-indents
   stacks-one q p =
       let d : s .indents .depth < length a = (let l = entry-most q in omega (arith, h .lent .room)) in
-      let g = stack-got a (limits .entries) (s .place .mark) (s .indents .indent + 1) false (s .indents) (h .lent .entries-most) (h .lent .room) (entry-fits q) in
+      let g = stack-got a (limits .entries) (s .place .mark) (s .indents .indent + 1) false (s .indents) (h .lent .entries-most) (h .lent .room) (entry-fits q) (h .low .indent) (omega (arith, h .low .indent)) in
       rw (p .0, p .1)
       (record {
         words = rw q;
-        same = rw (q, entries-push a (s .indents .depth) (s .indents .indent) false d);
+        same = rw (q, entries-push a (s .indents .depth) (s .indents .indent) false d (h .low .indent));
         frames = g .frames;
-        low = g .low 1_048_577 (h .low) (omega (arith, h .low));
+        low = g .low;
       })
 
   pub stacks-none : entry ≡ false → StacksBracket limits entry a a s (s .indents)

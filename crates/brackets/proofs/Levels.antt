@@ -1,5 +1,5 @@
 -- What the definition's three rules come to: they emit the token from a state whose level was opened, was closed, or has a new entry.
-use Prim.Native.Nat.{_+_, _-_, _<_, _^_, _≤_, suc, zero, ℕ}
+use Prim.Native.Nat.{_+_, _-_, _<_, _≤_, suc, zero, ℕ}
 use mathlib.Core.Bool.{Bool, Bool·beq, _&&_, false, not, true}
 use mathlib.Core.List.{List, _∷_}
 use mathlib.Core.Path.{_∙_, _≡_, ap, refl, sym}
@@ -24,23 +24,18 @@ use Rattle.reading.specs.declared.Reached.{Reached}
 use Rattle.reading.specs.declared.Reached.the-variants.{Refused}
 use Rattle.stacks.specs.declared.indent.Indents.{Indents}
 use Rattle.stacks.specs.Frame.{SetsKey, SetsLevel, frame-keys, frame-levels, level-of, with-level}
-use Rattle.stacks.specs.Stack.{entry-words, stack-words}
+use Rattle.stacks.specs.Stack.{entry-words}
 use Rattle.stacks.proofs.Entries.{entries-length, entries-stay-then}
 use Rattle.stacks.proofs.Levels.{keys-opened, levels-first, levels-opened}
 use Rattle.states.specs.declared.State.{State}
-use Rattle.states.specs.Fetch.{OneByte, Ready}
+use Rattle.states.specs.Fetch.{OneByte}
 use Rattle.states.specs.Key.{Removes, Saves}
-use Rattle.states.specs.Seen.{in-flow-seen, low-frames, low-key, low-level}
-use Rattle.states.specs.State.{KeysLow, key-mark, s-with-indents, s-with-level, state-of}
+use Rattle.states.specs.Seen.{in-flow-seen}
+use Rattle.states.specs.State.{s-with-indents, s-with-level, state-of}
 use Rattle.brackets.specs.Emit.{emit-bracket}
 use Rattle.brackets.specs.Words.{OpensLevel, StacksBracket, bracket-indents, bracket-words, comma-words, stacks-entry}
 use Rattle.brackets.proofs.Emitted.{Past, emits-refused}
 use Rattle.brackets.proofs.Entry.{stacks-full, stacks-room}
-
--- what `save_key` and `remove_key` ask for
-pub ready-key : {limits : Limits} {text a : List ℕ} {s : State} → Ready limits text a s
-    → (s .«flow_level» ≤ 255) × (s .indents .depth ≤ entry-words) × (stack-words ≤ length a) × (s .place .mark .col < 2 ^ 31)
-ready-key y = (omega (arith, y .deep, y .lent), omega (arith, y .low, y .lent), y .lent .room, omega (arith, y .stands))
 
 levels-count : (a : List ℕ) (d : ℕ) → length (frame-levels a d) ≡ d
 unfolding frame-levels
@@ -49,14 +44,12 @@ levels-count a (suc d) = ap suc (levels-count a d)
 
 -- a level that is opened
 pub opens-level : {a b e : List ℕ} {l m : Level} (level : ℕ) → SetsKey a b (level + 1) Absent → SetsLevel b e (level + 1) m → m ≡ l → OpensLevel a e level l
-unfolding key-mark
 opens-level level k w q =
     record {
       words = w .words ∙ rw (q, k .words);
       keys = keys-opened level refl k w;
       levels = levels-opened level refl k w ∙ rw q;
       entries = entries-stay-then (k .entries) (w .entries);
-      low = λ h. low-level w (low-key k h (omega arith));
     }
 
 -- saving the candidate changes the candidates only
@@ -125,9 +118,6 @@ module _ {limits : Limits} {sequence entry : Bool} {a b c e : List ℕ} {count :
       → opened-from sequence entry (save-key (state-of text a count s)) ≡ state-of text e count (s-with-level (s-with-indents s i) (s .«flow_level» + 1))
   start-state h text =
       rw (← k .same text, o .keys, o .levels, o .entries .entries (i .depth) h, w .frames .keys (suc (s .«flow_level»)), w .frames .levels (s .«flow_level»), ← w .same)
-
-  pub start-low : KeysLow a → s .place .mark .col ≤ 1_048_576 → KeysLow e
-  start-low h g = o .low (low-frames (w .frames) (k .low h g))
 
   pub start-words : entry ≡ stacks-entry a s → e ≡ bracket-words sequence a count s
   start-words q = o .words ∙ rw (w .words, k .words, q)

@@ -17,7 +17,7 @@ use Rattle.stacks.specs.Frame.{FramesStay, frame-keys, frame-levels, level-of, 
 use Rattle.stacks.specs.Indent.{EntriesStay, Low, entries-of, indents-seen, word-of}
 use Rattle.states.specs.declared.State.{State}
 use Rattle.states.specs.Key.{removed-words, saved-words}
-use Rattle.states.specs.State.{KeysLow, Lent}
+use Rattle.states.specs.State.{Lent}
 
 -- K6: a bracket here stacks an entry
 unfoldable pub stacks-entry : List ℕ → State → Bool
@@ -46,7 +46,7 @@ comma-words a s = put-level (removed-words a s) (s .«flow_level») (new-level (
 -- what `stack_bracket` asks for: there is room for the entry, if one is to be stacked
 pub record Fits (limits : Limits) (entry : Bool) (a : List ℕ) (s : State) : Type 0 where
   pub room : (entry && leb (limits .entries) (s .indents .depth)) ≡ false
-  pub low : Low (limits .entries) 1_048_577 a (s .indents)
+  pub low : Low (limits .entries) (s .indents)
   pub lent : Lent limits a
 
 -- `stack_bracket`, from the words a to e
@@ -54,7 +54,7 @@ pub record StacksBracket (limits : Limits) (entry : Bool) (a e : List ℕ) (s : 
   pub words : e ≡ entry-stored entry a s
   pub same : indents-seen e r ≡ bracket-indents entry (indents-seen a (s .indents))
   pub frames : FramesStay a e
-  pub low : Low (limits .entries) 1_048_577 e r
+  pub low : Low (limits .entries) r
 
 -- `open_level`: one level more, from the words a to e
 pub record OpensLevel (a e : List ℕ) (level : ℕ) (l : Level) : Type 0 where
@@ -62,4 +62,3 @@ pub record OpensLevel (a e : List ℕ) (level : ℕ) (l : Level) : Type 0 where
   pub keys : frame-keys e (suc (level + 1)) ≡ Absent ∷ frame-keys a (suc level)
   pub levels : frame-levels e (level + 1) ≡ l ∷ frame-levels a level
   pub entries : EntriesStay a e
-  pub low : KeysLow a → KeysLow e

@@ -1,15 +1,15 @@
 -- Bytes of a class between two places of a text, and what is carried over each of them; and how many of a block are, as a loop without an exit counts
 -- them: where all are, each is.
-use Prim.Native.Nat.{_+_, _-_, _<_, _≤_, suc, zero, ℕ}
-use mathlib.Core.Bool.{Bool, false, true}
+use Prim.Native.Nat.{_%_, _+_, _-_, _<_, _≤_, suc, zero, ℕ}
+use mathlib.Core.Bool.{Bool, _&&_, and-false, false, true}
 use mathlib.Core.List.{List, [], _∷_}
 use mathlib.Core.Path.{_≡_, subst}
 use native.Mathlib.Numerals.{add-one}
 use native.Mathlib.Omega.{arith}
-use lib.Dec.{eqb, ltb}
+use lib.Dec.{eqb, leb, ltb}
 use lib.ListN.{drop, drop-of-length-le, getD, length, length-drop, take}
 use lib.Seq.{drop-cons, getD-drop, getD-take, length-take-le}
-use borrow.Author.Tests.{eqb-true, ltb-false, ltb-true}
+use borrow.Author.Tests.{eqb-true, lt-leb, ltb-false, ltb-true}
 use Rattle.yaml_text.specs.Pick.{pick}
 use Rattle.yaml_text.specs.Test.{by-test}
 
@@ -94,6 +94,28 @@ module _ {p : ℕ → Bool} {s : List ℕ} where
             let c = counted p (take (e - at) (drop at s)) (eqb-true _ _ f) (i - at) (rw l (omega arith)) in
             rw (getD-take (e - at) (drop at s) (i - at) 0 (omega arith), getD-drop at s (i - at) 0, j) at c;
       }
+
+-- the blocks of 16 bytes of the class that stand from at on, up to r
+pub record Blocks (p : ℕ → Bool) (s : List ℕ) (at r : ℕ) : Type 0 where
+  pub each : Each p s at r
+  pub whole : (r - at) % 16 ≡ 0
+  pub last : (leb (r + 16) (length s) && all-of p (take 16 (drop r s))) ≡ false
+
+-- the same on the way, where more may follow
+abbrev pub SomeBlocks : (ℕ → Bool) → List ℕ → ℕ → ℕ → Type 0
+SomeBlocks p s at r = Each p s at r × ((r - at) % 16 ≡ 0)
+
+module _ {p : ℕ → Bool} {s : List ℕ} {start at : ℕ} where
+  pub blocks-more : SomeBlocks p s start at → at + 16 ≤ length s → all-of p (take (at + 16 - at) (drop at s)) ≡ true → SomeBlocks p s start (at + 16)
+  blocks-more w h e = (each-then (w .0) (each-block (omega arith) h e), omega (arith, w .1, w .0 .onward))
+
+  pub blocks-end : SomeBlocks p s start at → all-of p (take (at + 16 - at) (drop at s)) ≡ false → Blocks p s start at
+  blocks-end w e =
+      let k : at + 16 - at ≡ 16 = omega arith in
+      record { each = w .0; whole = w .1; last = rw (rw k at e) (and-false (leb (at + 16) (length s))) }
+
+  pub blocks-out : SomeBlocks p s start at → length s < at + 16 → Blocks p s start at
+  blocks-out w h = record { each = w .0; whole = w .1; last = rw (lt-leb (at + 16) (length s) h) }
 
 -- what a byte of the class carries on holds behind them all
 module _ (p : ℕ → Bool) (s : List ℕ) (P : ℕ → Type 0) (step : (i : ℕ) → i < length s → p (getD s i 0) ≡ true → P i → P (i + 1)) where

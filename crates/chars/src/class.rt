@@ -1,7 +1,7 @@
 // The tests of char_traits. 0 stands for the end of the text. `|` and `&` take no branch: a loop that stops at a class gets one bit test.
 ghost use mathlib.Core.Bool.{true};
 ghost use mathlib.Core.Path.{_≡_};
-ghost use Rattle.yaml_text.specs.Class.{as-hex, is-alpha, is-anchor, is-blank, is-blank-or-breakz, is-bom, is-break, is-breakz, is-digit, is-flow, is-hex, is-non-space, is-tag, is-uri, is-word, is-z};
+ghost use Rattle.yaml_text.specs.Class.{as-hex, is-alpha, is-anchor, is-blank, is-blank-or-breakz, is-bom, is-break, is-breakz, is-digit, is-flow, is-hex, is-non-space, is-tag, is-uri, is-z};
 use crate::code::BYTE_ORDER_MARK;
 use crate::code::CARRIAGE_RETURN;
 use crate::code::CLOSE_BRACE;
@@ -34,7 +34,7 @@ const UPPER_LESS_10: u32 = b'A' as u32 - 10;
 
 const LOWER_LESS_10: u32 = b'a' as u32 - 10;
 
-pub fn is_z(c: u32) -> bool
+fn is_z(c: u32) -> bool
     ensures { λ r. ⌜ r ≡ is-z c ⌝ }
 {
     c == 0
@@ -130,14 +130,7 @@ pub fn is_anchor_char(c: u32) -> bool
     is_yaml_non_space(c) & !is_flow(c)
 }
 
-// Letters, digits and -.
-pub fn is_word_char(c: u32) -> bool
-    ensures { λ r. ⌜ r ≡ is-word c ⌝ }
-{
-    is_alpha(c) & (c != UNDERSCORE)
-}
-
-// Word characters and # ; / ? : @ & = + $ , _ . ! ~ * ' ( ) [ ] %, by ranges.
+// Letters, digits and - # ; / ? : @ & = + $ , _ . ! ~ * ' ( ) [ ] %, by ranges.
 pub fn is_uri_char(c: u32) -> bool
     ensures { λ r. ⌜ r ≡ is-uri c ⌝ }
 {

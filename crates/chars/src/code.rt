@@ -23,6 +23,8 @@ pub const ZERO: u32 = b'0' as u32;
 
 pub const NINE: u32 = b'9' as u32;
 
+pub const COLON: u32 = b':' as u32;
+
 pub const SEMICOLON: u32 = b';' as u32;
 
 pub const EQUALS: u32 = b'=' as u32;

@@ -26,7 +26,8 @@ use Rattle.gaps.specs.declared.Gapped.the-variants.{Got, Refused}
 use Rattle.gaps.specs.Gap.{Skips, seen-gap}
 use Rattle.stacks.specs.declared.indent.Unrolled.{Unrolled}
 use Rattle.stacks.specs.Frame.{frame-keys, key-of}
-use Rattle.stacks.specs.Indent.{Unrolls}
+use Rattle.stacks.specs.Indent.{Low, Unrolls}
+use Rattle.stacks.proofs.Entries.{below-same, low-below}
 use Rattle.stacks.proofs.Rolls.{refused-got}
 use Rattle.states.specs.declared.Lapsed.the-variants as lapsed
 use Rattle.states.specs.declared.State.{State}
@@ -40,12 +41,12 @@ use Rattle.choices.specs.Advance.{AdvancesTo, Stops, UnrollsHere}
 -- the unrolling
 
 module _ (stacks : List ℕ) (s : State) where
-  pub unrolls-none : 0 < s .«flow_level» → UnrollsHere stacks s (record { ended = 0; indents = s .indents })
+  pub unrolls-none : {room : ℕ} → Low room (s .indents) → 0 < s .«flow_level» → UnrollsHere stacks s (record { ended = 0; indents = s .indents })
   unfolding unrolled
-  unrolls-none h =
+  unrolls-none l h =
       record {
         same = λ text count. rw (in-flow-seen text stacks count s, lt-ltb 0 (s .«flow_level») h, unrolled);
-        below = record { depth = omega arith; low = λ room b l. l };
+        below = below-same (l .indent);
         few = omega arith;
       }
 
@@ -117,9 +118,8 @@ module _ (text a : List ℕ) (s : State) where
           few = u .few;
           ready = record {
             stands = k .onward .0;
-            low = u .below .low _ _ (l .entries .low _ _ (s .indents) (y .lent .entries-most) (y .low));
+            low = low-below (y .low) (u .below);
             deep = y .deep;
-            keys = l .low (y .keys);
             lent = lent-kept q (y .lent);
           };
         }

@@ -18,7 +18,7 @@ use Rattle.choices.specs.declared.advance.Advanced.the-variants.{Refused
 -- the blocks that end at the column of s
 pub record UnrollsHere (stacks : List ℕ) (s : State) (u : Unrolled) : Type 0 where
   pub same : (text : List ℕ) (count : ℕ) → unrolled-seen stacks u ≡ unrolled (state-of text stacks count s)
-  pub below : Below stacks (s .indents) (u .indents)
+  pub below : Below (s .indents) (u .indents)
   pub few : u .ended + u .indents .depth ≤ s .indents .depth
 
 -- from s to t before a token, where so many blocks ended, and from the words a to e

@@ -1,6 +1,8 @@
 // After gaps, lapse and unrolling to the column.
 ghost use Prim.Native.Nat.{_^_, _<_, _≤_};
 ghost use lib.ListN.{length};
+ghost use Rattle.stacks.specs.Indent.{Low};
+ghost use Rattle.stacks.specs.Stack.{entry-words, stack-words};
 ghost use Rattle.states.specs.Fetch.{Ready};
 ghost use Rattle.choices.specs.Advance.{Advances, UnrollsHere};
 use gaps::Gapped;
@@ -20,7 +22,7 @@ pub enum Advanced {
 
 // To the column; in flow nothing ends.
 fn unrolled(s: State, stacks: &[u32]) -> Unrolled
-    requires { ⌜ (s .indents .depth ≤ length (now stacks)) × (s .indents .depth < 2 ^ 32) × (s .place .mark .col < 2 ^ 31) ⌝ }
+    requires { ⌜ Low entry-words (s .indents) × (stack-words ≤ length (now stacks)) × (s .place .mark .col < 2 ^ 31) ⌝ }
     ensures { λ r. ⌜ UnrollsHere (now (stacks .entry)) s r ⌝ }
 {
     let i = s.indents;

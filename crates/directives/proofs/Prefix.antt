@@ -13,13 +13,14 @@ use Rattle.yaml_text.specs.Class.{is-blank-or-breakz, is-tag, is-uri, peek}
 use Rattle.yaml_text.specs.Mark.{look}
 use Rattle.yaml_text.specs.Mark as definition
 use Rattle.yaml_text.specs.Refusal.{Read, _>>=_, got, need, refused}
+use Rattle.yaml_text.specs.Test.{by-test}
 use Rattle.yaml_text.specs.Utf8.{chars}
 use Rattle.yaml_lexeme.specs.declared.Kind.the-variants as kind
 use Rattle.yaml_lexeme.specs.declared.Text.{Text}
 use Rattle.yaml_lexeme.specs.Directive.{blanks-at, tag-directive, tag-handle, tag-prefix}
 use Rattle.yaml_lexeme.specs.Record.{laid}
 use Rattle.yaml_lexeme.specs.Tag.{uri-at}
-use Rattle.yaml_lexeme.specs.Token.{TagDirective, kind-bytes, lexeme}
+use Rattle.yaml_lexeme.specs.Token.{TagDirective, kind-bytes}
 use Rattle.chars.specs.declared.mark.Place.{Place}
 use Rattle.chars.specs.Ascii.{Ascii, _or_, one, tag-ascii}
 use Rattle.chars.specs.Bytes.{ascii-at}
@@ -30,15 +31,14 @@ use Rattle.reading.specs.declared.Reached.the-variants as reached
 use Rattle.reading.specs.declared.Reading.{Reading}
 use Rattle.reading.specs.declared.Reading.the-variants as reading
 use Rattle.reading.specs.Answers.{lexes-refused}
-use Rattle.reading.specs.Reading.{Given, Lexes, text-size}
+use Rattle.reading.specs.Reading.{Given, Lexes, seen, text-size}
 use Rattle.runs.specs.declared.Run.{Run}
 use Rattle.runs.specs.declared.Run.the-variants.{Refused, To}
 use Rattle.runs.specs.Run.{Writes}
 use Rattle.runs.specs.RunLaws.{ran, run-refused}
-use Rattle.directives.specs.Front.{Fronts}
-use Rattle.directives.proofs.Spans.{front-kept}
-use Rattle.directives.proofs.Texts.{Pairs, texts-got}
-use Rattle.directives.specs.Tag.{Handles, handle, no-handle, prefixed}
+use Rattle.directives.specs.Front.{Fronts, HoldsTexts, bytes-behind, held-texts}
+use Rattle.directives.specs.Tag.{Handles, handle, no-handle, prefix-run, tag-of}
+use Rattle.directives.proofs.Texts.{Pairs, held-lexes, texts-held}
 
 -- its first character
 begins : Ascii (λ c. eqb c '!' || is-tag c)
@@ -51,62 +51,66 @@ module _ (start : Mark) {text before after : List ℕ} {p : Place} {n c : ℕ} {
   prefix-some e w = rw (ascii-at text (p .at) c b begins ∙ e) w
 
 -- what follows the handle, by what is read of it
-module _ (start : Mark) (h : List ℕ) (p : definition.Place) where
-  is-refused : {n : ℕ} {m : Mark} → tag-prefix start (blanks-at p) ≡ refused n m → prefixed start h p ≡ refused n m
-  unfolding prefixed _>>=_
+module _ (start : Mark) (p : definition.Place) where
+  is-refused : {n : ℕ} {m : Mark} → tag-prefix start (blanks-at p) ≡ refused n m → prefix-run start p ≡ refused n m
+  unfolding prefix-run _>>=_
   is-refused e = rw e
 
-  is-bad : (eqb (look (blanks-at p)) '!' || is-tag (look (blanks-at p))) ≡ false → prefixed start h p ≡ refused 18 start
-  unfolding prefixed tag-prefix _>>=_ need
+  is-bad : (eqb (look (blanks-at p)) '!' || is-tag (look (blanks-at p))) ≡ false → prefix-run start p ≡ refused 18 start
+  unfolding prefix-run tag-prefix _>>=_ need
   is-bad e = rw e
 
-  module _ {s : List ℕ} {q : definition.Place} (e : tag-prefix start (blanks-at p) ≡ got (record { text = s; place = q })) where
-    is-followed : is-blank-or-breakz (look q) ≡ false → prefixed start h p ≡ refused 19 start
-    unfolding prefixed _>>=_ need
+  module _ {s : definition.Run} (e : tag-prefix start (blanks-at p) ≡ got s) where
+    is-followed : is-blank-or-breakz (look (s .place)) ≡ false → prefix-run start p ≡ refused 19 start
+    unfolding prefix-run _>>=_ need
     is-followed f = rw (e, f)
 
-    is-ended : is-blank-or-breakz (look q) ≡ true → prefixed start h p ≡ got (lexeme (TagDirective h s) start (q .mark) q)
-    unfolding prefixed _>>=_ need
+    is-ended : is-blank-or-breakz (look (s .place)) ≡ true → prefix-run start p ≡ tag-prefix start (blanks-at p)
+    unfolding prefix-run _>>=_ need
     is-ended f = rw (e, f)
 
 tag-pairs : Pairs TagDirective kind.TagDirective
 unfolding laid kind-bytes text-size
 tag-pairs = record { laid-is = λ used t u. refl; bytes-is = λ t u. refl; size-is = λ a b. refl }
 
--- 18
-pub prefix-bad : (start : Mark) {text before mid room h : List ℕ} {p q : Place} {n c used : ℕ} {v : Reading} → Fronts before mid h n
-    → Moves text p q (blanks-at (view text p)) → c ≡ getD text (q .at) 0 → (eqb c '!' || is-tag c) ≡ false
-    → v ≡ reading.Refused (record { number = 18; mark = start }) → room ≡ replicate (length mid) 0 → Lexes text before room used v (prefixed start h (view text p))
-prefix-bad start {text} {h = h} {p} {q} {c = c} f m b e g z =
-    let k : (eqb (look (blanks-at (view text p))) '!' || is-tag (look (blanks-at (view text p)))) ≡ false = rw (← (m .same)) (ascii-at text (q .at) c b begins ∙ e) in
-    lexes-refused g (is-bad start h (view text p) k) (z ∙ rw (front-kept f))
+-- a refusal
+holds-refused : {text before after : List ℕ} {start : Mark} {used n : ℕ} {x : Refusal} {v : Reading} {d : Read definition.Run} → v ≡ reading.Refused x
+    → d ≡ refused (x .number) (x .mark) → after ≡ replicate (length before) 0 → HoldsTexts kind.TagDirective text before after start used n v d
+unfolding seen held-texts bytes-behind
+holds-refused e f z = rw (e, f) (record { same = refl; bytes = z; ahead = tt })
 
-module _ (start : Mark) {text before mid after h : List ℕ} {p q : Place} {n : ℕ} {r : Run} (f : Fronts before mid h n)
-    (m : Moves text p q (blanks-at (view text p))) (w : Writes text mid after q n r (tag-prefix start (view text q))) where
-  prefix-read : Writes text mid after q n r (tag-prefix start (blanks-at (view text p)))
+-- 18
+pub prefix-bad : (start : Mark) {text before room : List ℕ} {p q : Place} {n c used : ℕ} {v : Reading} → Moves text p q (blanks-at (view text p))
+    → c ≡ getD text (q .at) 0 → (eqb c '!' || is-tag c) ≡ false → v ≡ reading.Refused (record { number = 18; mark = start })
+    → room ≡ replicate (length before) 0 → HoldsTexts kind.TagDirective text before room start used n v (prefix-run start (view text p))
+prefix-bad start {text} {p = p} {q} {c = c} m b e g z =
+    let k : (eqb (look (blanks-at (view text p))) '!' || is-tag (look (blanks-at (view text p)))) ≡ false = rw (← (m .same)) (ascii-at text (q .at) c b begins ∙ e) in
+    holds-refused g (is-bad start (view text p) k) z
+
+module _ (start : Mark) {text before after : List ℕ} {p q : Place} {n : ℕ} {r : Run}
+    (m : Moves text p q (blanks-at (view text p))) (w : Writes text before after q n r (tag-prefix start (view text q))) where
+  prefix-read : Writes text before after q n r (tag-prefix start (blanks-at (view text p)))
   prefix-read = rw (m .same) at w
 
   -- a refusal clears what was written
-  module _ {room : List ℕ} (l : length after ≡ length mid) (z : room ≡ replicate (length after) 0) where
-    all-zero : room ≡ replicate (length before) 0
-    all-zero = z ∙ rw (l, front-kept f)
-
-    pub prefix-refused : {x : Refusal} {v : Reading} {used : ℕ} → r ≡ Refused x → v ≡ reading.Refused x → Lexes text before room used v (prefixed start h (view text p))
-    prefix-refused e g = lexes-refused g (is-refused start h (view text p) (run-refused prefix-read e)) all-zero
+  module _ {room : List ℕ} (l : length after ≡ length before) (z : room ≡ replicate (length after) 0) where
+    pub prefix-refused : {x : Refusal} {v : Reading} {used : ℕ} → r ≡ Refused x → v ≡ reading.Refused x
+        → HoldsTexts kind.TagDirective text before room start used n v (prefix-run start (view text p))
+    prefix-refused e g = holds-refused g (is-refused start (view text p) (run-refused prefix-read e)) (z ∙ rw l)
 
     pub prefix-followed : {e : Place} {k c used : ℕ} {v : Reading} → r ≡ To e k → c ≡ peek (chars (drop (e .at) text)) 0 → is-blank-or-breakz c ≡ false
-        → v ≡ reading.Refused (record { number = 19; mark = start }) → Lexes text before room used v (prefixed start h (view text p))
-    prefix-followed i j y g = lexes-refused g (is-followed start h (view text p) (ran prefix-read i .is) (rw (← j) y)) all-zero
+        → v ≡ reading.Refused (record { number = 19; mark = start }) → HoldsTexts kind.TagDirective text before room start used n v (prefix-run start (view text p))
+    prefix-followed i j y g = holds-refused g (is-followed start (view text p) (ran prefix-read i .is) (rw (← j) y)) (z ∙ rw l)
 
   module _ {e : Place} {k c used : ℕ} {v : Reading} (i : r ≡ To e k) (l : c ≡ peek (chars (drop (e .at) text)) 0) where
     pub prefix-ended : {a b : Text} {x : ℕ} → Given text start used → n ≤ p .at → 1 ≤ p .at → is-blank-or-breakz c ≡ true
         → a ≡ record { at = used; len = n % 2 ^ 32 } → x ≡ n % 2 ^ 32 → b ≡ record { at = used + x; len = (k - n) % 2 ^ 32 }
         → v ≡ reading.Got (record { token = record { kind = kind.TagDirective a b; start = start; end = e .mark }; next = e })
-        → Lexes text before after used v (prefixed start h (view text p))
+        → HoldsTexts kind.TagDirective text before after start used n v (prefix-run start (view text p))
     prefix-ended given few some z ta tx tb g =
         let t = ran prefix-read i in
         let o = m .onward in
-        texts-got tag-pairs given f (omega arith) (omega arith) t ta tx tb g (is-ended start h (view text p) (t .is) (rw (← l) z))
+        texts-held tag-pairs given (omega arith) (omega arith) t (is-ended start (view text p) (t .is) (rw (← l) z)) ta tx tb g
 
 -- a handle that was read, or none
 to-is : {a b : Place} → reached.To a ≡ reached.To b → a ≡ b
@@ -135,7 +139,16 @@ module _ (start : Mark) {text : List ℕ} {p q : Place} (m : Moves text p q (bla
   unfolding tag-directive _>>=_
   tag-refused h e g z = lexes-refused g (rw (handle-read (handle-refused h e))) z
 
-  pub tag-got : {e : Place} {h : definition.Run} {v : Reading} {before after : List ℕ} {used : ℕ} → tag-handle start (view text q) ≡ got h → Spans text q e h
-      → Lexes text before after used v (prefixed start (h .text) (view text e)) → Lexes text before after used v (tag-directive start (view text p))
-  unfolding tag-directive prefixed _>>=_
-  tag-got e s d = rw (handle-read e, ← (s .moves .same)) d
+  by-prefix : (h : List ℕ) (d : Read definition.Run)
+      → ((d >>= λ r. need (is-blank-or-breakz (look (r .place))) 19 start >>= λ _. got r) >>= λ r. got (tag-of start h r))
+      ≡ (d >>= λ r. need (is-blank-or-breakz (look (r .place))) 19 start >>= λ _. got (tag-of start h r))
+  unfolding _>>=_ need
+  by-prefix h (got x) = by-test (is-blank-or-breakz (look (x .place))) (λ e. rw e) (λ e. rw e)
+  by-prefix h (refused n k) = refl
+
+  pub tag-got : {e : Place} {h : definition.Run} {v : Reading} {before mid after : List ℕ} {used n : ℕ} → tag-handle start (view text q) ≡ got h → Spans text q e h
+      → Fronts before mid (h .text) n → HoldsTexts kind.TagDirective text mid after start used n v (prefix-run start (view text e))
+      → Lexes text before after used v (tag-directive start (view text p))
+  unfolding tag-directive prefix-run _>>=_
+  tag-got {e} {h} i s f d =
+      rw (handle-read i, ← (s .moves .same), ← (by-prefix (h .text) (tag-prefix start (blanks-at (view text e))))) (held-lexes tag-pairs (prefix-run start (view text e)) f d)

@@ -7,14 +7,13 @@ use native.Mathlib.Omega.{arith}
 use lib.ListN.{drop}
 use lib.Seq.{sets}
 use Rattle.yaml_text.specs.declared.Mark.{Mark}
-use Rattle.yaml_text.specs.Mark as definition
-use Rattle.yaml_text.specs.Refusal.{got}
+use Rattle.yaml_text.specs.Refusal.{_>>=_, got}
 use Rattle.yaml_text.specs.Utf8.{chars}
 use Rattle.yaml_lexeme.specs.declared.Kind.the-variants as kind
 use Rattle.yaml_lexeme.specs.declared.Text.{Text}
 use Rattle.yaml_lexeme.specs.Directive.{parameters, reserved-directive}
 use Rattle.yaml_lexeme.specs.Record.{laid}
-use Rattle.yaml_lexeme.specs.Token.{ReservedDirective, kind-bytes, lexeme}
+use Rattle.yaml_lexeme.specs.Token.{ReservedDirective, kind-bytes}
 use Rattle.chars.specs.declared.mark.Place.{Place}
 use Rattle.chars.specs.Parts.{part}
 use Rattle.chars.specs.View.{view}
@@ -26,17 +25,11 @@ use Rattle.runs.specs.Run.{Writes}
 use Rattle.runs.specs.RunLaws.{Ran, ran}
 use Rattle.directives.specs.Name.{NameAt, name-in}
 use Rattle.directives.proofs.Spans.{span-front}
-use Rattle.directives.proofs.Texts.{Pairs, texts-got}
+use Rattle.directives.proofs.Texts.{Pairs, held-lexes, texts-held}
 
 reserved-pairs : Pairs ReservedDirective kind.ReservedDirective
 unfolding laid kind-bytes text-size
 reserved-pairs = record { laid-is = λ used t u. refl; bytes-is = λ t u. refl; size-is = λ a b. refl }
-
-is-reserved : (start : Mark) (name : List ℕ) (p : definition.Place) {s : List ℕ} {q : definition.Place}
-    → got (parameters false false (p .mark) (p .rest)) ≡ got (record { text = s; place = q })
-    → reserved-directive start name p ≡ lexeme (ReservedDirective name s) start (q .mark) q
-unfolding reserved-directive
-is-reserved start name p {s} {q} e = let f : parameters false false (p .mark) (p .rest) ≡ record { text = s; place = q } = cc in rw f
 
 module _ {text mid after : List ℕ} {k : ℕ} {p q : Place}
     (w : Writes text mid after p (p .at - 1) (To q k) (got (parameters false false (p .mark) (chars (drop (p .at) text))))) where
@@ -48,7 +41,8 @@ module _ {text mid after : List ℕ} {k : ℕ} {p q : Place}
       → a ≡ record { at = used; len = (p .at - 1) % 2 ^ 32 } → x ≡ (p .at - 1) % 2 ^ 32 → b ≡ record { at = used + x; len = (k - (p .at - 1)) % 2 ^ 32 }
       → r ≡ Got (record { token = record { kind = kind.ReservedDirective a b; start = start; end = q .mark }; next = q })
       → Lexes text before after used r (got (reserved-directive start (name-in text start .text) (view text p)))
-  reserved-got {start = start} h c ta tx tb g =
+  unfolding reserved-directive _>>=_
+  reserved-got h c ta tx tb g =
       let o = h .name .moves .onward in
-      texts-got reserved-pairs (h .indicated .given) (span-front (h .name) c) (omega arith) o joined ta tx tb g
-      (rw (is-reserved start (name-in text start .text) (view text p) (joined .is)))
+      let e = texts-held reserved-pairs (h .indicated .given) (omega arith) o joined refl ta tx tb g in
+      held-lexes reserved-pairs (got (parameters false false (p .mark) (chars (drop (p .at) text)))) (span-front (h .name) c) e

@@ -18,9 +18,13 @@ pub data Handles (text : List ℕ) (p : Place) : Reached → Read Run → Type 0
   handle : {q : Place} {h : Run} → Spans text p q h → Handles text p (To q) (got h)
   no-handle : {n : ℕ} {m : Mark} → Handles text p (Refused (record { number = n; mark = m })) (refused n m)
 
--- behind the handle h
-unfoldable pub prefixed : Mark → List ℕ → definition.Place → Read Lexeme
-prefixed start h p = do
+-- the prefix behind the handle; 19: no blank after it
+unfoldable pub prefix-run : Mark → definition.Place → Read Run
+prefix-run start p = do
   r ← tag-prefix start (blanks-at p)
   _ ← need (is-blank-or-breakz (look (r .place))) 19 start
-  got (lexeme (TagDirective h (r .text)) start (r .place .mark) (r .place))
+  got r
+
+-- the directive of the handle h
+abbrev pub tag-of : Mark → List ℕ → Run → Lexeme
+tag-of start h r = lexeme (TagDirective h (r .text)) start (r .place .mark) (r .place)

@@ -73,10 +73,10 @@ pub fn reserved_directive(text: &[u8], start: Mark, p: Place, used: u32, out: &m
     copy(out, 0, &text[1..to]);
     let n = to - 1;
     let r = read_parameters(text, p, n, out);
-    let one = text_at(used, n);
-    let other = text_at(used + count(n), r.count - n);
+    let name = text_at(used, n);
+    let parameters = text_at(used + count(n), r.count - n);
     got(
-        Kind::ReservedDirective(one, other),
+        Kind::ReservedDirective { name, parameters },
         start,
         r.place.mark,
         r.place,

@@ -1,18 +1,19 @@
 // %TAG (16 to 19; 20 to 24).
 ghost use mathlib.Core.Bool.{_||_};
-ghost use mathlib.Core.List.{List};
 ghost use mathlib.Core.Path.{_≡_};
-ghost use Prim.Native.Nat.{_≤_, ℕ};
+ghost use Prim.Native.Nat.{_≤_};
 ghost use lib.Dec.{eqb};
 ghost use Rattle.yaml_text.specs.Char.{'!'};
 ghost use Rattle.yaml_text.specs.Class.{is-tag};
+ghost use Rattle.yaml_lexeme.specs.declared.Kind.the-variants.{TagDirective};
 ghost use Rattle.yaml_lexeme.specs.Directive.{tag-directive, tag-handle};
 ghost use Rattle.chars.specs.View.{Stands, view};
 ghost use Rattle.reading.specs.Reading.{Given, Lexes};
-ghost use Rattle.directives.specs.Front.{Fronts};
-ghost use Rattle.directives.specs.Tag.{Handles, prefixed};
+ghost use Rattle.directives.specs.Front.{HoldsTexts};
+ghost use Rattle.directives.specs.Tag.{Handles, prefix-run};
 use chars::class::is_blank_or_breakz;
 use chars::class::is_tag_char;
+use chars::code::EXCLAMATION;
 use chars::mark::Place;
 use gaps::skip_blanks;
 use reading::Reached;
@@ -57,13 +58,13 @@ fn tag_handle(text: &[u8], start: Mark, p: Place) -> Reached
 fn begins_prefix(c: u32) -> bool
     ensures { λ r. ⌜ r ≡ (eqb c '!' || is-tag c) ⌝ }
 {
-    (c == 33) | is_tag_char(c)
+    (c == EXCLAMATION) | is_tag_char(c)
 }
 
 // The rest, behind the handle of n bytes, which was written. 18: a bad first character; 19: no blank after the prefix.
 fn read_prefix(text: &[u8], start: Mark, p: Place, n: usize, used: u32, out: &mut [u8]) -> Reading
     requires { ⌜ Given (now text) start used × Stands (now text) p × (n ≤ p .at) × (1 ≤ p .at) ⌝ }
-    ensures { λ r. ⌜ ((before h : List ℕ) → Fronts before (now (out .entry)) h n → Lexes (now (text .entry)) before (now (out .exit)) used r (prefixed start h (view (now (text .entry)) p))) ⌝ }
+    ensures { λ r. ⌜ HoldsTexts TagDirective (now (text .entry)) (now (out .entry)) (now (out .exit)) start used n r (prefix-run start (view (now (text .entry)) p)) ⌝ }
 {
     let q = skip_blanks(text, p);
     let from = q.at;
@@ -76,9 +77,9 @@ fn read_prefix(text: &[u8], start: Mark, p: Place, n: usize, used: u32, out: &mu
         Run::To(e, k) => {
             let at = e.at;
             if is_blank_or_breakz(look(text, at)) {
-                let one = text_at(used, n);
-                let other = text_at(used + count(n), k - n);
-                return got(Kind::TagDirective(one, other), start, e.mark, e);
+                let handle = text_at(used, n);
+                let prefix = text_at(used + count(n), k - n);
+                return got(Kind::TagDirective { handle, prefix }, start, e.mark, e);
             }
             refuse_out(19, start, out)
         }

@@ -9,6 +9,7 @@ ghost use Rattle.reading.specs.Answers.{Answers};
 ghost use Rattle.directives.specs.declared.version.Numbered.the-variants.{Refused};
 ghost use Rattle.directives.specs.Version.{Numbers, minor-version};
 use chars::class::is_digit;
+use chars::code::ZERO;
 use chars::mark::Place;
 use gaps::skip_blanks;
 use reading::Reading;
@@ -49,7 +50,7 @@ fn version_digits(text: &[u8], start: Mark, from: Place) -> Numbered
             if n == 9 {
                 return wrong(14, start);
             }
-            v = v * 10 + (c - 48);
+            v = v * 10 + (c - ZERO);
             n += 1;
             p = p.skip_blank();
         } else {
@@ -82,7 +83,10 @@ fn minor_version(text: &[u8], start: Mark, major: u32, p: Place) -> Reading
             Numbered::Refused(f) => Reading::Refused(f),
             Numbered::Got { value, place } => {
                 got(
-                    Kind::VersionDirective(major, value),
+                    Kind::VersionDirective {
+                        major,
+                        minor: value,
+                    },
                     start,
                     place.mark,
                     place,

@@ -19,6 +19,7 @@ use Rattle.stacks.specs.declared.indent.Unrolled.{Unrolled}
 use Rattle.stacks.specs.Frame.{frame-keys}
 use Rattle.stacks.specs.Indent.{Unrolls}
 use Rattle.stacks.specs.Stack.{entry-words}
+use Rattle.stacks.proofs.Entries.{low-below}
 use Rattle.events.specs.declared.Counts.{Counts}
 use Rattle.events.specs.Event.{closing-of, laid-events, laid-of}
 use Rattle.events.specs.Laid.{Textless, laid-ends, laid-of-closing, laid-textless, textless-size}
@@ -38,8 +39,7 @@ leaves {s = s} {u} h w k =
       same = λ text count. key-seen (s-with-indents s (u .indents)) (k .sets) (omega (arith, w .below .depth)) text count ∙ rw (← w .same);
       ended = ap (λ (x : definition.Unrolled). x .ended) (w .same);
       few = w .few;
-      low = λ room b r l. k .sets .entries .low room b (u .indents) r (w .below .low room b l);
-      keys = k .low;
+      below = w .below;
     }
 
 -- a token without text behind ends of blocks
@@ -62,7 +62,7 @@ fetch-outside {text = text} {e = e} {n = n} {s = s} {u} y l {k} t q end leads al
     fetch-quiet (block-ends (u .ended) m ++ (put (record { kind = k; start = m; end = end }) ∷ [])) (laid-behind-ends t _ (n .used) (u .ended) m end)
     (at-place q leads (allow allowed (state-of text e (n .count) (s-with-indents s (u .indents))))) (i ∙ rw (l .ended)) (rw v)
     (record {
-      sane = record { stands = h; low = l .low _ _ (y .lent .entries-most) (y .low); deep = y .deep; keys = l .keys (y .keys) };
+      sane = record { stands = h; low = low-below (y .low) (l .below); deep = y .deep };
       onward = on;
       size = omega arith;
       closed = omega (arith, l .few, y .low .deep, y .lent .entries-most);

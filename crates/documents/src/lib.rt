@@ -12,6 +12,7 @@ ghost use Rattle.yaml_scan.specs.Document.{after-marker, fetch-byte-order-mark,
 ghost use Rattle.chars.specs.Bytes.{CharAt};
 ghost use Rattle.chars.specs.View.{Stands, view};
 ghost use Rattle.reading.specs.Reading.{Reaches};
+ghost use Rattle.stacks.specs.Indent.{Low};
 ghost use Rattle.stacks.specs.Stack.{entry-words, stack-words};
 ghost use Rattle.states.specs.Fetch.{FetchesQuiet, Ready};
 ghost use Rattle.states.specs.Key.{removed-words};
@@ -38,7 +39,7 @@ use yaml_text::Mark;
 
 // Out of every block: how many of them end, and the indents left. The candidate goes.
 pub fn leave_blocks(s: State, stacks: &mut [u32]) -> Unrolled
-    requires { ⌜ (s .«flow_level» ≤ 255) × (s .indents .depth ≤ entry-words) × (stack-words ≤ length (now stacks)) ⌝ }
+    requires { ⌜ (s .«flow_level» ≤ 255) × Low entry-words (s .indents) × (stack-words ≤ length (now stacks)) ⌝ }
     ensures { λ r. ⌜ Leaves (now (stacks .entry)) (now (stacks .exit)) s r ⌝ }
 {
     let u = unroll(stacks, 0, s.indents);

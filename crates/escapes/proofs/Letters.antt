@@ -15,7 +15,8 @@ use Rattle.yaml_text.specs.Test.{by-test}
 use Rattle.yaml_text.specs.Utf8.{chars, is-scalar}
 use Rattle.yaml_text.specs.Utf8Laws.{bytes1}
 use Rattle.yaml_lexeme.specs.declared.Named.the-variants.{Digits, Stands, Unknown}
-use Rattle.yaml_lexeme.specs.Escape.{Row, escape, escape-of, escapes, looked-up, named}
+use Rattle.yaml_lexeme.specs.Table.{looked-up}
+use Rattle.yaml_lexeme.specs.Escape.{Row, escape, escape-of, escapes, named}
 use Rattle.yaml_lexeme.specs.EscapeTable.{each-row}
 use Rattle.chars.specs.Bytes.{CharAt, peek-char}
 use Rattle.chars.specs.Reach.{reach-one, reach-rest}
@@ -33,7 +34,7 @@ passed [] c h = refl
 passed (k ∷ ks) c h = rw (ne-eqb c k (h .1)) (passed ks c (h .0))
 
 -- a letter that is in no row
-not-in : (ks : List ℕ) (rows : List Row) (c : ℕ) → T (each-row (λ l _. among l ks) rows) → among c ks ≡ false → looked-up c rows ≡ Unknown
+not-in : (ks : List ℕ) (rows : List Row) (c : ℕ) → T (each-row (λ l _. among l ks) rows) → among c ks ≡ false → looked-up Unknown c rows ≡ Unknown
 unfolding looked-up
 not-in ks [] c t h = refl
 not-in ks (r ∷ rs) c t h =

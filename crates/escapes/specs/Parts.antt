@@ -1,11 +1,14 @@
 -- What code answers for the parts of an escape. Where a part is read, its characters are of one byte each.
-use Prim.Native.Nat.{_*_, _+_, _<_, _^_, _≤_, ℕ}
-use mathlib.Core.List.{List}
+use Prim.Native.Nat.{_*_, _+_, _<_, _^_, _≤_, suc, zero, ℕ}
+use mathlib.Core.List.{List, [], _∷_}
 use mathlib.Core.Path.{_≡_}
-use lib.ListN.{drop}
+use lib.ListN.{drop, length}
+use lib.Seq.{sets}
 use Rattle.yaml_text.specs.declared.Mark.{Mark}
+use Rattle.yaml_text.specs.Mark.{origin}
+use Rattle.yaml_text.specs.Pick.{pick}
 use Rattle.yaml_text.specs.Refusal.{Read, got, refused}
-use Rattle.yaml_text.specs.Utf8.{chars}
+use Rattle.yaml_text.specs.Utf8.{chars, is-tail}
 use Rattle.yaml_lexeme.specs.declared.Named.{Named}
 use Rattle.yaml_lexeme.specs.declared.Named.the-variants.{Digits, Stands, Unknown}
 use Rattle.yaml_lexeme.specs.Escape.{hex-number}
@@ -54,3 +57,17 @@ OctetsFound text at n (Refused k) = Unit {0}
 pub record TrailingAt (text : List ℕ) (at n : ℕ) (bs : List ℕ) (r : Octets) : Type 0 where
   pub same : (start : Mark) → trailing start n (chars (drop at text)) ≡ octets-read start r bs
   pub found : OctetsFound text at n r
+
+-- those up to the first that is missing, or does not go on with a character
+abbrev pub tail-before : Read ℕ → List ℕ → List ℕ
+tail-before (got b) bs = pick (is-tail b) (b ∷ bs) []
+tail-before (refused k m) bs = []
+
+unfoldable pub tails : ℕ → List ℕ → List ℕ
+tails zero cs = []
+tails (suc n) cs = tail-before (octet origin cs) (tails n (drop 3 cs))
+
+-- which are stored
+pub record Trails (text : List ℕ) (at : ℕ) (before after : List ℕ) (r : Octets) : Type 0 where
+  pub read : TrailingAt text at (length before) after r
+  pub bytes : after ≡ sets before 0 (tails (length before) (chars (drop at text)))

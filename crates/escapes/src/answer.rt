@@ -13,7 +13,7 @@ pub enum Escape {
 }
 
 // A refusal by its number.
-pub fn refuse(number: u32, start: Mark) -> Escape
+pub(crate) fn refuse(number: u32, start: Mark) -> Escape
     ensures { λ r. ⌜ r ≡ Refused (record { number = number; mark = start }) ⌝ }
 {
     Escape::Refused(Refusal {

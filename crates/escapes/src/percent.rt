@@ -5,7 +5,7 @@ ghost use Rattle.yaml_text.specs.Utf8.{chars};
 ghost use Rattle.yaml_lexeme.specs.Tag.{percent};
 ghost use Rattle.chars.specs.View.{Stands};
 ghost use Rattle.escapes.specs.Escaped.{Escapes};
-ghost use Rattle.escapes.specs.Parts.{TrailingAt};
+ghost use Rattle.escapes.specs.Parts.{Trails};
 use crate::answer::Escape;
 use crate::answer::refuse;
 use crate::hex::Hex;
@@ -23,10 +23,10 @@ enum Octets {
     Refused(u32),
 }
 
-// Fills out with the trailing octets that are written at a place.
+// Fills out with the trailing octets that are written at a place, up to one that is missing or goes on with no character.
 fn trailing(text: &[u8], at: usize, out: &mut [u8]) -> Octets
     requires { ⌜ (at ≤ length (now text)) × (length (now out) ≤ 3) ⌝ }
-    ensures { λ r. ⌜ TrailingAt (now (text .entry)) at (length (now (out .entry))) (now (out .exit)) r ⌝ }
+    ensures { λ r. ⌜ Trails (now (text .entry)) at (now (out .entry)) (now (out .exit)) r ⌝ }
 {
     let mut i = 0;
     while i < out.len() {

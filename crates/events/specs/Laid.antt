@@ -12,9 +12,7 @@ use Rattle.yaml_lexeme.specs.declared.Token as held-token
 use Rattle.yaml_lexeme.specs.Token.{BlockEnd, BlockMappingStart, BlockSequenceStart, FlowMappingEnd, FlowMappingStart, Kind, Token, kind-bytes, token-bytes}
 use Rattle.yaml_lexeme.specs.Record.{laid}
 use Rattle.yaml_scan.specs.State.{Event, block-ends, empty-if, put, put-before, puts}
-use Rattle.events.specs.declared.Event as code
 use Rattle.events.specs.declared.Note.{Note}
-use Rattle.events.specs.declared.Note.the-variants as note
 use Rattle.events.specs.declared.Opening.{Opening}
 use Rattle.events.specs.declared.Opening.the-variants as opening
 use Rattle.reading.specs.Reading.{text-size}

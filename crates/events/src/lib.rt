@@ -67,12 +67,12 @@ fn text_len(k: Kind) -> u32
     ensures { λ r. ⌜ r ≡ text-size k ⌝ }
 {
     match k {
-        Kind::TagDirective(a, b) => a.len + b.len,
+        Kind::TagDirective { handle, prefix } => handle.len + prefix.len,
         Kind::Alias(a) => a.len,
         Kind::Anchor(a) => a.len,
-        Kind::Tag(a, b) => a.len + b.len,
-        Kind::Scalar(_, a) => a.len,
-        Kind::ReservedDirective(a, b) => a.len + b.len,
+        Kind::Tag { handle, suffix } => handle.len + suffix.len,
+        Kind::Scalar { style: _, text } => text.len,
+        Kind::ReservedDirective { name, parameters } => name.len + parameters.len,
         _ => 0,
     }
 }

@@ -1,5 +1,5 @@
 -- Spaces in a row.
-use Prim.Native.Nat.{_+_, _<_, _≤_, ℕ}
+use Prim.Native.Nat.{_%_, _+_, _<_, _≤_, ℕ}
 use mathlib.Core.List.{List}
 use mathlib.Core.Path.{_≡_, refl}
 use native.Mathlib.Omega.{arith}
@@ -7,7 +7,7 @@ use lib.ListN.{drop, getD, length}
 use borrow.Author.Tests.{eqb-true, ne-eqb}
 use Rattle.yaml_text.specs.Char.{space}
 use Rattle.chars.specs.Blocks.{is-space}
-use Rattle.chars.specs.Each.{Each, each-carry}
+use Rattle.chars.specs.Each.{Blocks, Each, each-carry, each-none}
 use Rattle.gaps.specs.Row.{Row, row, row-length, row-over, row-past, row-turn}
 
 -- how many spaces a text begins with
@@ -17,6 +17,15 @@ space-run l = row-length is-space l
 pub space-row : (s : List ℕ) (at : ℕ) → Row is-space s at (space-run (drop at s))
 unfolding is-space
 space-row s at = row is-space (λ b e. let f = eqb-true b space e in omega arith) s at
+
+-- blocks of them, where the place is one that a block is tried at
+pub data Tries (s : List ℕ) (at r : ℕ) : Type 0 where
+  tried : at % 16 ≡ 0 → Blocks is-space s at r → Tries s at r
+  untried : (at % 16 ≡ 0 → ⊥) → r ≡ at → Tries s at r
+
+pub tries-each : {s : List ℕ} {at r : ℕ} → at ≤ length s → Tries s at r → Each is-space s at r
+tries-each h (tried e b) = b .each
+tries-each h (untried e f) = rw f (each-none h)
 
 -- where they end
 module _ {s : List ℕ} {at r : ℕ} (x : Each is-space s at r) where

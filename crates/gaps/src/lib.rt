@@ -8,13 +8,13 @@ ghost use Rattle.yaml_text.specs.Utf8.{chars};
 ghost use Rattle.yaml_lexeme.specs.declared.Before.the-variants.{AfterText, Leading, Tabbed};
 ghost use Rattle.yaml_lexeme.specs.Gap.{blanks, blanks-and-comment, on-blank, skip-gap, to-break};
 ghost use Rattle.chars.specs.Blocks.{is-space};
-ghost use Rattle.chars.specs.Each.{Each};
+ghost use Rattle.chars.specs.Each.{Blocks};
 ghost use Rattle.chars.specs.View.{Moves, Stands, view};
 ghost use Rattle.reading.specs.Reading.{Reaches};
 ghost use Rattle.gaps.specs.declared.Gapped.the-variants.{Got, Refused};
 ghost use Rattle.gaps.specs.Gap.{Open, Other, Skips, gap-from};
 ghost use Rattle.gaps.specs.Line.{is-low, line, low-run};
-ghost use Rattle.gaps.specs.Spaces.{space-run};
+ghost use Rattle.gaps.specs.Spaces.{Tries, space-run};
 ghost use Rattle.chars.specs.Parts.{Spans};
 use chars::block::ByteClass;
 use chars::block::all_of;
@@ -94,7 +94,7 @@ pub fn run_to_break(text: &[u8], start: Place) -> Place
 }
 
 // To the line's end.
-pub fn to_break(text: &[u8], start: Place) -> Place
+fn to_break(text: &[u8], start: Place) -> Place
     requires { ⌜ Stands (now text) start ⌝ }
     ensures { λ r. ⌜ Moves (now (text .entry)) start r (to-break (start .mark) (chars (drop (start .at) (now (text .entry))))) ⌝ }
 {
@@ -210,7 +210,7 @@ fn before_of(leads: bool) -> Before
 // Over blocks of 16 spaces.
 fn past_space_blocks(text: &[u8], start: usize) -> usize
     requires { ⌜ start ≤ length (now text) ⌝ }
-    ensures { λ r. ⌜ Each is-space (now (text .entry)) start r ⌝ }
+    ensures { λ r. ⌜ Blocks is-space (now (text .entry)) start r ⌝ }
 {
     let mut at = start;
     while at + 16 <= text.len() {
@@ -226,7 +226,7 @@ fn past_space_blocks(text: &[u8], start: usize) -> usize
 // Over spaces that stand in blocks, where the place is one that a block is tried at.
 fn past_some_spaces(text: &[u8], at: usize) -> usize
     requires { ⌜ at ≤ length (now text) ⌝ }
-    ensures { λ r. ⌜ Each is-space (now (text .entry)) at r ⌝ }
+    ensures { λ r. ⌜ Tries (now (text .entry)) at r ⌝ }
 {
     if at % 16 != 0 {
         return at;

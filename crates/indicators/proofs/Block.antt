@@ -30,10 +30,9 @@ use Rattle.events.specs.Event.{laid-events, laid-of, opening-if}
 use Rattle.events.specs.Laid.{Opens, Textless, laid-of-opening, laid-opening, laid-textless, opens-mapping, opens-sequence}
 use Rattle.states.specs.declared.State.{State}
 use Rattle.states.specs.State.{s-with-indents, state-of}
-use Rattle.states.specs.Seen.{in-flow-seen, level-zero, low-frames, low-level}
+use Rattle.states.specs.Seen.{in-flow-seen, level-zero}
 use Rattle.states.specs.Key.{Removes}
 use Rattle.states.specs.Fetch.{FetchesQuiet, OneByte, Ready}
-use Rattle.states.specs.Answer.{ready-col}
 use Rattle.indicators.specs.Indicator.{RollsAt, event-one, goes-one}
 use Rattle.indicators.specs.Words.{dash-words, question-words, questioned-of}
 use Rattle.indicators.proofs.Levels.{question-levels}
@@ -99,9 +98,8 @@ module _ (limits : Limits) (text a : List ℕ) (s : State) where
         (goes-one (s-with-indents s i) note.Nothing (opening-if starts opening.BlockSequenceStart) held-as.BlockEntry true)
     unfolding fetch-block-entry need _>>=_
     entry-goes {starts = starts} {i} y o r k n =
-        let low = r .low (ready-col y) in
-        let h : i .depth ≤ entry-words = omega (arith, low .deep, y .lent .entries-most) in
-        one-goes y o (k .sets .entries .low _ _ _ (y .lent .entries-most) low) (k .low (low-frames (r .frames) (y .keys)))
+        let h : i .depth ≤ entry-words = omega (arith, r .low .deep, y .lent .entries-most) in
+        one-goes y o (r .low)
         (events opens-sequence block-entry starts (s .place)) (said opens-sequence block-entry _ (n .used) starts (s .place)) block-entry
         (rw (in-flow-seen text a (n .count) s, entry-may (ltb 0 (s .«flow_level»)) (s .«simple_key_allowed») e, ← r .same, ← removed-seen i (r .frames) k h text (n .count)))
         (k .words ∙ rw (r .words))
@@ -124,10 +122,8 @@ module _ (limits : Limits) (text a : List ℕ) (s : State) where
         (goes-one (s-with-indents s i) note.Nothing (opening-if starts opening.BlockMappingStart) held-as.Key (eqb (s .«flow_level») 0))
     unfolding fetch-key need _>>=_
     key-goes {c} {starts = starts} {i} y o r k q n =
-        let low = r .low (ready-col y) in
-        let h : i .depth ≤ entry-words = omega (arith, low .deep, y .lent .entries-most) in
-        let most = y .lent .entries-most in
-        one-goes y o (q .entries .low _ _ _ most (k .sets .entries .low _ _ _ most low)) (low-level q (k .low (low-frames (r .frames) (y .keys))))
+        let h : i .depth ≤ entry-words = omega (arith, r .low .deep, y .lent .entries-most) in
+        one-goes y o (r .low)
         (events opens-mapping key starts (s .place)) (said opens-mapping key _ (n .used) starts (s .place)) key
         (rw (
           in-flow-seen text a (n .count) s,

@@ -24,14 +24,14 @@ use Rattle.events.specs.declared.Opening.{Opening}
 use Rattle.events.specs.Event.{laid-events, laid-of}
 use Rattle.events.specs.Laid.{Textless, textless-size}
 use Rattle.states.specs.declared.State.{State}
-use Rattle.states.specs.State.{KeysLow, key-mark, s-with-indents, state-of}
+use Rattle.states.specs.State.{key-mark, s-with-indents, state-of}
 use Rattle.states.specs.Fetch.{FetchesQuiet, OneByte, Ready}
 use Rattle.states.specs.Answer.{fetch-quiet}
 use Rattle.indicators.specs.Indicator.{event-one, goes-one}
 
 -- from the words a to e, which are to be w
 module _ {limits : Limits} {text a e w : List ℕ} {n : Counts} {s : State} (y : Ready limits text a s) (b : OneByte text (s .place))
-    {i : Indents} (low : Low (limits .entries) 1_048_577 e i) (keys : KeysLow e) where
+    {i : Indents} (low : Low (limits .entries) i) where
   pub one-goes : {t : Note} {o : Opening} {k : tokens.Kind} {kind : Kind} {allowed : Bool} {d : Read News} (events : List Event)
       → laid-of (key-mark (key-of a (s .«flow_level»))) (event-one t o kind (s .place)) ≡ laid-events (n .used) events → Textless k kind
       → d ≡ emit events (at-place (skip-by 1 (view text (s .place))) false (allow allowed (state-of text e (n .count) (s-with-indents s i)))) → e ≡ w
@@ -41,7 +41,7 @@ module _ {limits : Limits} {text a e w : List ℕ} {n : Counts} {s : State} (y :
       fetch-quiet events said (at-place (skip-by 1 (view text (s .place))) false (allow allowed (state-of text e (n .count) (s-with-indents s _)))) i
       (rw (m .same))
       record {
-        sane = record { stands = m .stands; low = low; deep = y .deep; keys = keys };
+        sane = record { stands = m .stands; low = low; deep = y .deep };
         onward = omega arith;
         size = omega (arith, textless-size t);
         closed = omega arith;

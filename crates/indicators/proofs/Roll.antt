@@ -39,7 +39,7 @@ module _ {limits : Limits} {a : List ℕ} {m : Mark} {s : State} (h : Rollable l
   unfolding roll-at roll-words
   rolls-flow f =
       let t = lt-ltb 0 (s .«flow_level») f in
-      record { same = rw (t, roll-at); words = rw t; kept = tt; frames = frames-stay-same a; low = λ _. h .low }
+      record { same = rw (t, roll-at); words = rw t; kept = tt; frames = frames-stay-same a; low = h .low }
 
   pub rolls-block : {e : List ℕ} {r : Rolled} → s .«flow_level» ≤ 0 → Rolls a e (limits .entries) (s .place .mark) (m .col + 1) (s .indents) r → RollsAt limits a e m s r
   unfolding roll-at roll-words
@@ -50,7 +50,7 @@ module _ {limits : Limits} {a : List ℕ} {m : Mark} {s : State} (h : Rollable l
         words = rw t (w .words);
         kept = kept-by r w;
         frames = w .frames;
-        low = λ l. w .low 1_048_577 (h .low) (omega arith);
+        low = w .low;
       }
 
 -- what the definition sees of it

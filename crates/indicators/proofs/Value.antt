@@ -35,10 +35,10 @@ use Rattle.events.specs.Event.{laid-events, laid-of, noted-of, opened-of}
 use Rattle.events.specs.Laid.{Textless}
 use Rattle.states.specs.declared.State.{State}
 use Rattle.states.specs.declared.Fetched.{Fetched}
-use Rattle.states.specs.State.{KeysLow, key-mark, s-with-indents, state-of}
-use Rattle.states.specs.Seen.{in-flow-seen, level-zero, low-frames, low-key, low-level, top-seen}
+use Rattle.states.specs.State.{key-mark, s-with-indents, state-of}
+use Rattle.states.specs.Seen.{in-flow-seen, key-low, level-zero, top-seen}
 use Rattle.states.specs.Fetch.{FetchesQuiet, OneByte, Ready}
-use Rattle.states.specs.Answer.{fetch-as, ready-col}
+use Rattle.states.specs.Answer.{fetch-as}
 use Rattle.indicators.specs.Indicator.{Rollable, RollsAt, SeesColon, event-one, goes-one, note-by, start-by}
 use Rattle.indicators.specs.Words.{colon-of, colon-words, pair-of, with-words, without-words, words-by}
 use Rattle.indicators.proofs.Levels.{colon-levels, pair-levels}
@@ -57,11 +57,10 @@ pub record Coloned (a b c e : List ℕ) (d : ℕ) (pair : Bool) : Type 0 where
   pub levels : frame-levels e d ≡ colon-seen (frame-levels a d)
   pub is : begins-pair (frame-levels a d) ≡ pair
   pub entries : EntriesStay b e
-  pub low : KeysLow a → KeysLow e
 
 module _ {a b e : List ℕ} {pair : Bool} (d : ℕ) (f : FramesStay a b) where
   pub coloned-with : {c : List ℕ} → SetsKey b c d Absent → SeesColon c e d pair → Coloned a b (put-key b d Absent) e d pair
-  unfolding frame-keys key-mark
+  unfolding frame-keys
   coloned-with k w =
       record {
         words = w .sets .words ∙ rw (w .is, k .level d, f .level d, k .words);
@@ -69,7 +68,6 @@ module _ {a b e : List ℕ} {pair : Bool} (d : ℕ) (f : FramesStay a b) where
         levels = colon-levels d w ∙ rw (k .levels d, f .levels d);
         is = pair-levels a d ∙ rw (← f .level d, ← k .level d) (sym (w .is));
         entries = entries-stay-then (k .entries) (w .sets .entries);
-        low = λ l. low-level (w .sets) (low-key k (low-frames f l) (omega arith));
       }
 
   pub coloned-without : key-of a d ≡ Absent → SeesColon b e d pair → Coloned a b b e d pair
@@ -81,7 +79,6 @@ module _ {a b e : List ℕ} {pair : Bool} (d : ℕ) (f : FramesStay a b) where
         levels = colon-levels d w ∙ rw (f .levels d);
         is = pair-levels a d ∙ rw (← f .level d) (sym (w .is));
         entries = w .sets .entries;
-        low = λ l. low-level (w .sets) (low-frames f l);
       }
 
 -- a pair begins only in flow, and a block only at level 0
@@ -131,9 +128,8 @@ said-without used m p false false h = refl
 
 -- with a candidate
 
--- its column is low, as any column is
 pub rollable-key : {limits : Limits} {text a : List ℕ} {s : State} {m : Mark} → Ready limits text a s → key-mark (key-of a (s .«flow_level»)) ≡ m → Rollable limits a m s
-rollable-key {s = s} y q = let l = rw q at (y .keys (s .«flow_level»)) in record { low = y .low; lent = y .lent; col = omega arith }
+rollable-key {a = a} {s} y q = record { low = y .low; lent = y .lent; col = rw q at (key-low a (s .«flow_level»)) }
 
 module _ {limits : Limits} (text a : List ℕ) {b : List ℕ} (s : State) (number : ℕ) (m : Mark) where
   pub with-shut : {f : Refusal} (count : ℕ) → RollsAt limits a b m s (Refused f) → value-with limits number m (state-of text a count s) ≡ refused (f .number) (f .mark)
@@ -146,9 +142,8 @@ module _ {limits : Limits} (text a : List ℕ) {b : List ℕ} (s : State) (numbe
       (goes-one (s-with-indents s i) (note-by number pair starts) opening.Nothing held-as.Value false)
   unfolding value-with _>>=_
   with-goes {starts = starts} {pair} {i} y o q r k n =
-      let low = r .low (rw (← q) (y .keys (s .«flow_level»))) in
-      let h : i .depth ≤ entry-words = omega (arith, low .deep, y .lent .entries-most) in
-      one-goes y o (k .entries .low _ _ _ (y .lent .entries-most) low) (k .low (y .keys)) (with-events number pair starts m (s .place))
+      let h : i .depth ≤ entry-words = omega (arith, r .low .deep, y .lent .entries-most) in
+      one-goes y o (r .low) (with-events number pair starts m (s .place))
       (rw q (said-with (n .used) number pair starts m (s .place) (one-start r k))) value
       (rw (roll-seen text (n .count) r, k .keys, k .levels, k .is, k .entries .entries (i .depth) h))
       (k .words ∙ rw (r .words))
@@ -171,9 +166,8 @@ module _ (limits : Limits) (text a : List ℕ) (s : State) where
         (goes-one (s-with-indents s i) note.Nothing (start-by pair starts) held-as.Value (eqb (s .«flow_level») 0))
     unfolding value-without need _>>=_
     without-goes {starts = starts} {pair} {i} y o r k n =
-        let low = r .low (ready-col y) in
-        let h : i .depth ≤ entry-words = omega (arith, low .deep, y .lent .entries-most) in
-        one-goes y o (k .entries .low _ _ _ (y .lent .entries-most) low) (k .low (y .keys)) (without-events pair starts (s .place))
+        let h : i .depth ≤ entry-words = omega (arith, r .low .deep, y .lent .entries-most) in
+        one-goes y o (r .low) (without-events pair starts (s .place))
         (said-without (n .used) _ (s .place) pair starts (one-start r k)) value
         (rw (in-flow-seen text a (n .count) s, key-may (s .«flow_level») (s .«simple_key_allowed») e, ← r .same, k .keys, k .levels, k .is, level-zero (s .«flow_level»), k .entries .entries (i .depth) h))
         (k .words ∙ rw (r .words))

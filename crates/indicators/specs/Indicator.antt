@@ -1,5 +1,5 @@
 -- What '-', '?' and ':' do: one character, the current level, rolling, and what the definition sees of it.
-use Prim.Native.Nat.{_^_, _<_, _≤_, ℕ}
+use Prim.Native.Nat.{_≤_, ℕ}
 use mathlib.Core.Bool.{Bool, false}
 use mathlib.Core.List.{List}
 use mathlib.Core.Path.{_≡_}
@@ -56,9 +56,9 @@ start-by pair starts = pick pair opening.FlowMappingStart (opening-if starts ope
 
 -- what rolling to the column of the mark m asks
 pub record Rollable (limits : Limits) (a : List ℕ) (m : Mark) (s : State) : Type 0 where
-  pub low : Low (limits .entries) 1_048_577 a (s .indents)
+  pub low : Low (limits .entries) (s .indents)
   pub lent : Lent limits a
-  pub col : m .col < 2 ^ 31
+  pub col : m .col ≤ 1_048_576
 
 -- a refusal leaves the words as they are
 abbrev pub KeptRolled : List ℕ → List ℕ → Rolled → Type 0
@@ -71,4 +71,4 @@ pub record RollsAt (limits : Limits) (a e : List ℕ) (m : Mark) (s : State) (r 
   pub words : e ≡ roll-words limits a m s
   pub kept : KeptRolled a e r
   pub frames : FramesStay a e
-  pub low : m .col ≤ 1_048_576 → LowRolled (limits .entries) 1_048_577 e r
+  pub low : LowRolled (limits .entries) r

@@ -9,7 +9,7 @@ ghost use Rattle.yaml_text.specs.Refusal.{got};
 ghost use Rattle.yaml_text.specs.Utf8.{chars, first};
 ghost use Rattle.yaml_lexeme.specs.Plain.{plain-stops, plain-text, scan-plain-scalar};
 ghost use Rattle.chars.specs.Blocks.{ordinary};
-ghost use Rattle.chars.specs.Each.{Each};
+ghost use Rattle.chars.specs.Each.{Blocks};
 ghost use Rattle.chars.specs.Parts.{Spans};
 ghost use Rattle.chars.specs.View.{Small, Stands, view};
 ghost use Rattle.reading.specs.Reading.{Given, Lexes, first-at};
@@ -117,7 +117,7 @@ fn text_length(text: &[u8], at: usize, flow: bool, blank: bool, b: u8) -> usize
 // Past the blocks of 16 ordinary bytes here.
 fn past_blocks(text: &[u8], start: usize) -> usize
     requires { ⌜ start ≤ length (now text) ⌝ }
-    ensures { λ r. ⌜ Each ordinary (now (text .entry)) start r ⌝ }
+    ensures { λ r. ⌜ Blocks ordinary (now (text .entry)) start r ⌝ }
 {
     let mut at = start;
     while at + 16 <= text.len() {
@@ -178,7 +178,10 @@ pub fn scan_plain_scalar(text: &[u8], start: Mark, flow: bool, used: u32, out: &
     let n = e.at;
     rooms::copy(out, 0, &text[..n]);
     got(
-        Kind::Scalar(Style::Plain, text_at(used, n)),
+        Kind::Scalar {
+            style: Style::Plain,
+            text: text_at(used, n),
+        },
         start,
         e.mark,
         e,

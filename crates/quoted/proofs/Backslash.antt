@@ -33,7 +33,8 @@ use Rattle.quoted.specs.declared.turns.Turned.{Turned}
 use Rattle.quoted.specs.declared.turns.Turned.the-variants.{Ends, Goes}
 use Rattle.quoted.specs.Modes.{mode-of}
 use Rattle.quoted.specs.Texts.{quote-by}
-use Rattle.quoted.specs.Advance.{Advances, Sound, number-of, quote-of, rest-of, text-turn}
+use Rattle.quoted.specs.Advance.{Advances, Sound, number-of, quote-of, rest-of, text-of, text-turn}
+use Rattle.quoted.proofs.Putting.{put-escape, put-joined}
 use Rattle.quoted.proofs.Runs.{before-none, behind, pass-break}
 use Rattle.quoted.proofs.Texts.{pass-along, pass-reach, run-escape, run-joined}
 use Rattle.quoted.proofs.Told.{escape-at-start, escape-passes}
@@ -100,6 +101,7 @@ module _ (q : Quote) {text : List ℕ} {p : Place} {n : ℕ} (s : Sound text (te
       let g = run-joined (quote-of q) m backslash rest (backslash-unblank .0) (backslash-unblank .1) (not-quote _ u) (is-backslash _ u) (breaks-yes b h) in
       let j = pass-break (quote-of q) (joined 0 true) (along m) b h in
       goes-on [] (record { place = past (past p 1 (along m)) k (new-line k (along m)); mode = mode.Escaped; count = n })
+      (rw (a .next) (put-joined (quote-of q) m backslash rest (backslash-unblank .0) (backslash-unblank .1) (not-quote _ u) (is-backslash _ u) (breaks-yes b h)))
       (rw (a .next, reach-rest w) (rw (← e) at g ∙ j ∙ sym (before-none (quoted-run (quote-of q) (joined 0 true) 0 (new-line k (along m)) (drop k rest)))))
       refl (omega arith)
       (record {
@@ -134,6 +136,13 @@ module _ (q : Quote) {text : List ℕ} {p : Place} {n : ℕ} (s : Sound text (te
           ∙ rw (← (x .char), x .mark-is, x .at-is, ← z, reach-rest (pass-reach text (p .at + 1) j (y .1)), ← k, ← l)
           (ap (before-read (c ∷ [])) (pass-along (quote-of q) chars-of j (along m) (after text p) (y .1)))
 
+      one-put : c ∷ [] ≡ text-of text q (text-turn p n)
+      unfolding mode-of
+      one-put =
+          rw (a .next, x .char)
+          (put-escape (quote-of q) (p .mark) backslash (after text p) (backslash-unblank .0) (backslash-unblank .1) (not-quote _ u) (is-backslash _ u)
+          (breaks-no (breaks (after text p)) v) (x .is))
+
       one-on : p .at + 2 ≤ next .at
       one-on = let y = escape-passes (q .start) (after text p) (x .esc) (x .is) in omega (arith, x .at-is)
 
@@ -144,7 +153,7 @@ module _ (q : Quote) {text : List ℕ} {p : Place} {n : ℕ} (s : Sound text (te
         let x = taken p (escape (q .start) (after text p)) c next (w .same) in
         let o = width-some c .1 in
         let i = one-on x in
-        goes-on (c ∷ []) (text-turn next k) (one-is x) (f ∙ rw (append-nil (char-bytes c))) (g ∙ rw (append-nil (char-bytes c)))
+        goes-on (c ∷ []) (text-turn next k) (one-put x) (one-is x) (f ∙ rw (append-nil (char-bytes c))) (g ∙ rw (append-nil (char-bytes c)))
         (record { stands = w .ahead .1; short = s .short; kept = tt; few = omega (arith, s .few) })
         (omega arith) h
 

@@ -28,6 +28,7 @@ use Rattle.quoted.specs.Texts.{quote-by, special, text-char}
 use Rattle.quoted.specs.Advance.{Advances, Sound, TextAt, blank-turned, break-turned, quote-of, swept, text-turn}
 use Rattle.quoted.proofs.Kept.{text-right, text-wrong}
 use Rattle.quoted.proofs.Lines.{quote-at}
+use Rattle.quoted.proofs.Putting.{put-behind}
 use Rattle.quoted.proofs.Runs.{run-folded, run-text}
 use Rattle.quoted.proofs.Turning.{blank-turns, break-turns, refused-at, turns-from}
 
@@ -96,7 +97,8 @@ module _ {text : List ℕ} {q : Quote} {t : Progress} {r : Turned} where
         let cs = chars (drop (at + w .len) text) in
         let b = mode-of text at (t .mode) in
         let x = text-right (quote-of q) m (w .char) cs text at (t .mode) (sym (rw (w .is .next) at e) ∙ z) in
-        turns-from (folds-to b) (rw (w .is .next) (run-folded (quote-of q) b m (w .char) cs (folds-to b) (w .no-blank) (w .no-break) x)) (f .puts .bytes) (f .puts .next) refl g
+        turns-from (folds-to b) (rw (w .is .next) (put-behind (quote-of q) b m (w .char) cs (w .no-blank) (w .no-break)))
+        (rw (w .is .next) (run-folded (quote-of q) b m (w .char) cs (folds-to b) (w .no-blank) (w .no-break) x)) (f .puts) refl g
 
 -- no count of breaks wraps
 least-owed : (at : ℕ) (mode : Mode) → owed 0 mode ≤ owed at mode

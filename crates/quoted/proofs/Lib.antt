@@ -4,6 +4,7 @@ pub mod Finish
 pub mod Folds
 pub mod Kept
 pub mod Lines
+pub mod Putting
 pub mod Quotes
 pub mod Running
 pub mod Runs

@@ -1,13 +1,13 @@
 -- Turns over a quote and over a run of text.
-use Prim.Native.Nat.{_+_, _-_, _≤_, ℕ}
+use Prim.Native.Nat.{_+_, _-_, ℕ}
 use mathlib.Core.Bool.{Bool, _&&_, false, true}
 use mathlib.Core.List.{List, [], _∷_}
 use mathlib.Core.Path.{_∙_, _≡_, ap, refl}
 use native.Mathlib.Omega.{arith}
-use lib.Dec.{eqb}
+use lib.Dec.{eqb, leb}
 use lib.ListN.{drop, getD, length, length-append, length-drop, set}
 use lib.Seq.{length-take-le, sets}
-use borrow.Author.Tests.{eq-eqb, eqb-true}
+use borrow.Author.Tests.{eq-eqb, eqb-true, leb-true}
 use Rattle.yaml_text.specs.Char.{single-quote}
 use Rattle.yaml_text.specs.Class.{is-blank, is-break, peek}
 use Rattle.yaml_text.specs.Mark.{along, along-by, edge-of}
@@ -26,7 +26,8 @@ use Rattle.quoted.specs.declared.turns.Turned.{Turned}
 use Rattle.quoted.specs.declared.turns.Turned.the-variants.{Ends, Goes}
 use Rattle.quoted.specs.Modes.{mode-of}
 use Rattle.quoted.specs.Texts.{quote-by, text-char, words}
-use Rattle.quoted.specs.Advance.{Advances, Sound, quote-of, text-turn}
+use Rattle.quoted.specs.Advance.{Advances, Sound, TextAt, quote-of, text-turn}
+use Rattle.quoted.proofs.Putting.{put-closed, put-pair, put-words}
 use Rattle.quoted.proofs.Texts.{Passed, pass-along, run-closed, run-pair, run-words, words-more}
 use Rattle.quoted.proofs.Turning.{closed-at, goes-on}
 
@@ -58,9 +59,11 @@ module _ {text : List ℕ} {q : Quote} {p : Place} {n : ℕ} {r : Turned} (s : S
         let x : at + 1 + 1 ≡ at + 2 = omega arith in
         let v : quoted-run (quote-of q) chars-of 1 (along m) cs ≡ quoted-run (quote-of q) chars-of 0 (along-by 2 m) (chars (drop (at + 2) text)) =
         pass-along (quote-of q) chars-of 1 (along m) cs l ∙ rw (i, j, d .next, x) in
+        let o = eq-eqb (quote-by (q .single)) (quote-by (q .single)) refl in
         goes-on (single-quote ∷ []) (text-turn (past p 2 (along-by 2 m)) (n + 1))
+        (rw (a .next) (put-pair (quote-of q) m (quote-by (q .single)) cs (u .0) (u .1) o g))
         (rw (a .next)
-        (run-pair (quote-of q) m (quote-by (q .single)) cs (u .0) (u .1) (eq-eqb (quote-by (q .single)) (quote-by (q .single)) refl) g ∙ rw v))
+        (run-pair (quote-of q) m (quote-by (q .single)) cs (u .0) (u .1) o g ∙ rw v))
         f refl
         (record { stands = stands-along (s .stands) 2 2 (omega arith) (omega (arith, d .within)); short = s .short; kept = tt; few = omega (arith, s .few) })
         (omega arith) k
@@ -72,17 +75,23 @@ module _ {text : List ℕ} {q : Quote} {p : Place} {n : ℕ} {r : Turned} (s : S
         let u = quote-unblank (q .single) in
         let cs = chars (drop (p .at + 1) text) in
         let g : (q .single && eqb (peek cs 0) single-quote) ≡ false = rw (eq-at text (p .at + 1) b e 39 tt) h in
+        let o = eq-eqb (quote-by (q .single)) (quote-by (q .single)) refl in
         closed-at before
-        (rw (a .next) (run-closed (quote-of q) (p .mark) (quote-by (q .single)) cs (u .0) (u .1) (eq-eqb (quote-by (q .single)) (quote-by (q .single)) refl) g))
+        (rw (a .next) (put-closed (quote-of q) (p .mark) (quote-by (q .single)) cs (u .0) (u .1) o g))
+        (rw (a .next) (run-closed (quote-of q) (p .mark) (quote-by (q .single)) cs (u .0) (u .1) o g))
         (stands-along (s .stands) 1 1 (omega arith) (a .within)) (omega arith) (omega (arith, s .few)) k
 
   -- a run of text
-  pub run-turns : {before after : List ℕ} {c len : ℕ} {e : Place} (spaces : Bool) → (spaces ≡ true → q .indent ≤ edge-of (p .mark)) → CharAt text (p .at) c len
-      → text-char (q .single) c ≡ true → Spans text p e (words spaces (q .single) (p .mark) (chars (drop (p .at) text)))
+  pub run-turns : {before after : List ℕ} {e : Place} (i : TextAt text (p .at)) → text-char (q .single) (i .char) ≡ true
+      → Spans text p e (words (leb (q .indent) (edge-of (p .mark))) (q .single) (p .mark) (chars (drop (p .at) text)))
       → after ≡ sets before n (part text (p .at) (e .at)) → r ≡ Goes (text-turn e (n + (e .at - p .at))) → Advances text q before after (text-turn p n) r
   unfolding mode-of encode
-  run-turns {before} {after} {c} {len} {e} spaces h a t w f k =
+  run-turns {before} {after} {e} i t w f k =
       let m = p .mark in
+      let a = i .is in
+      let c = i .char in
+      let len = i .len in
+      let spaces = leb (q .indent) (edge-of m) in
       let y = words spaces (q .single) m (chars (drop (p .at) text)) in
       let z = words spaces (q .single) (along m) (chars (drop (p .at + len) text)) in
       let o = w .moves .onward in
@@ -90,7 +99,9 @@ module _ {text : List ℕ} {q : Quote} {p : Place} {n : ℕ} {r : Turned} (s : S
       ap length (w .bytes) ∙ length-take-le (e .at - p .at) _ (omega (arith, length-drop (p .at) text, w .moves .stands .within)) in
       let g : length (encode (y .text)) ≡ length (char-bytes c) + length (encode (z .text)) =
       rw (a .next, words-more spaces (q .single) m c (chars (drop (p .at + len) text)) (rw t)) (length-append (char-bytes c) (encode (z .text))) in
-      let i = first-bytes (drop (p .at) text) c len (a .is) .1 in
-      goes-on (y .text) (text-turn e (n + (e .at - p .at))) (run-words (quote-of q) spaces m (chars (drop (p .at) text)) h ∙ rw (← (w .moves .same))) (f ∙ rw (w .bytes)) (rw l)
+      let j = first-bytes (drop (p .at) text) c len (a .is) .1 in
+      goes-on (y .text) (text-turn e (n + (e .at - p .at)))
+      (rw (a .next) (put-words (quote-of q) m c (chars (drop (p .at + len) text)) (i .no-blank) (i .no-break) t))
+      (run-words (quote-of q) spaces m (chars (drop (p .at) text)) (leb-true (q .indent) (edge-of m)) ∙ rw (← (w .moves .same))) (f ∙ rw (w .bytes)) (rw l)
       (record { stands = w .moves .stands; short = s .short; kept = tt; few = omega (arith, s .few) })
       (omega (arith, a .some)) k

@@ -1,11 +1,12 @@
 -- The loop over the turns, from behind the opening quote to the scalar's end.
 use Prim.Native.Nat.{_<_, _≤_, ℕ}
 use mathlib.Core.List.{List}
-use mathlib.Core.Path.{_∙_, _≡_, refl}
+use mathlib.Core.Path.{_∙_, _≡_, ap, refl}
 use native.Mathlib.Omega.{arith}
 use lib.ListN.{drop, length}
+use lib.Seq.{length-sets}
 use Rattle.yaml_text.specs.Mark.{along}
-use Rattle.yaml_text.specs.Utf8.{chars}
+use Rattle.yaml_text.specs.Utf8.{chars, encode}
 use Rattle.yaml_lexeme.specs.Quoted.{chars-of, quoted-run}
 use Rattle.chars.specs.Places.{stands-along}
 use Rattle.chars.specs.View.{Stands, past}
@@ -17,7 +18,7 @@ use Rattle.quoted.specs.declared.turns.Progress.{Progress}
 use Rattle.quoted.specs.declared.turns.Turned.{Turned}
 use Rattle.quoted.specs.declared.turns.Turned.the-variants.{Ends, Goes}
 use Rattle.quoted.specs.Modes.{mode-of}
-use Rattle.quoted.specs.Advance.{Advances, ClosedBehind, EndLeaves, RunEnds, Sound, led-to, quote-of, text-turn, to-write, written}
+use Rattle.quoted.specs.Advance.{Advances, ClosedBehind, EndLeaves, Leaves, RunEnds, Sound, led-to, quote-of, text-of, text-turn, to-write, written}
 
 pub record Running (text : List ℕ) (q : Quote) (before out : List ℕ) (t : Progress) : Type 0 where
   pub sound : Sound text t
@@ -39,9 +40,9 @@ behind-from : (text : List ℕ) (at : ℕ) (e : End) → ClosedBehind text at e 
 behind-from text at (Closed p n) h = (h .0, omega (arith, h .1), h .2)
 behind-from text at (Refused f) h = tt
 
-end-leaves : (before out next : List ℕ) (e : End) → length out ≡ length before → EndLeaves out next e → EndLeaves before next e
-end-leaves before out next (Closed p n) l h = h ∙ l
-end-leaves before out next (Refused f) l h = h ∙ rw l
+end-leaves : (before out next : List ℕ) (n : ℕ) (t : List ℕ) (e : End) → length out ≡ length before → Leaves out n next t (Ends e) → EndLeaves before next e
+end-leaves before out next n t (Closed p k) l h = ap length (h .bytes) ∙ length-sets out n (encode t) ∙ l
+end-leaves before out next n t (Refused f) l h = h ∙ rw l
 
 module _ {text : List ℕ} {q : Quote} {before out next : List ℕ} {t : Progress} {r : Turned} (w : Running text q before out t) (h : Advances text q out next t r) where
   pub running-more : {u : Progress} → r ≡ Goes u → length next ≡ length out → Running text q before next u
@@ -54,4 +55,4 @@ module _ {text : List ℕ} {q : Quote} {before out next : List ℕ} {t : Progres
 
   pub running-done : {e : End} → r ≡ Ends e → RunEnds text q before next e
   unfolding led-to
-  running-done {e} f = let k = rw f at h in record { same = w .whole ∙ k .same; leaves = end-leaves before out next e (w .same) (k .leaves); behind = behind-from text (t .place .at) e (k .onward) }
+  running-done {e} f = let k = rw f at h in record { same = w .whole ∙ k .same; leaves = end-leaves before out next (t .count) (text-of text q t) e (w .same) (k .leaves); behind = behind-from text (t .place .at) e (k .onward) }

@@ -26,7 +26,9 @@ use Rattle.quoted.specs.declared.turns.Quote.{Quote}
 use Rattle.quoted.specs.declared.turns.Progress.{Progress}
 use Rattle.quoted.specs.declared.turns.Turned.{Turned}
 use Rattle.quoted.specs.declared.turns.Turned.the-variants.{Ends, Goes}
+use Rattle.reading.specs.Puts.{Puts}
 use Rattle.quoted.specs.Modes.{Kept, behind-break, blank-mode, break-mode, mode-of, owed}
+use Rattle.quoted.specs.Texts.{turn-text}
 
 abbrev pub quote-of : Quote → quotes.Quote
 quote-of q = record { single = q .single; indent = q .indent; start = q .start }
@@ -79,19 +81,20 @@ abbrev pub Further : List ℕ → ℕ → Turned → Type 0
 Further text at (Goes t) = Sound text t × (at < t .place .at)
 Further text at (Ends e) = ClosedBehind text at e
 
--- a refusal leaves the lent bytes all zero; else what they hold is told by what is written
-abbrev pub EndLeaves : List ℕ → List ℕ → End → Type 0
-EndLeaves before after (Closed p n) = length after ≡ length before
-EndLeaves before after (Refused f) = after ≡ replicate (length before) 0
+-- the text of a turn
+abbrev pub text-of : List ℕ → Quote → Progress → List ℕ
+text-of text q t = turn-text (quote-of q) (mode-of text (t .place .at) (t .mode)) (t .place .mark) (chars (drop (t .place .at) text))
 
-abbrev pub Leaves : List ℕ → List ℕ → Turned → Type 0
-Leaves before after (Goes t) = length after ≡ length before
-Leaves before after (Ends e) = EndLeaves before after e
+-- it is written from n on; a refusal leaves the lent bytes all zero
+abbrev pub Leaves : List ℕ → ℕ → List ℕ → List ℕ → Turned → Type 0
+Leaves before n after t (Goes u) = Puts before n after (u .count) t
+Leaves before n after t (Ends (Closed p k)) = Puts before n after k t
+Leaves before n after t (Ends (Refused f)) = after ≡ replicate (length before) 0
 
 -- the contract of a turn
 pub record Advances (text : List ℕ) (q : Quote) (before after : List ℕ) (t : Progress) (r : Turned) : Type 0 where
   pub same : to-write text q before t ≡ led-to text q after r
-  pub leaves : Leaves before after r
+  pub leaves : Leaves before (t .count) after (text-of text q t) r
   pub onward : Further text (t .place .at) r
 
 -- an escape's refusal; 0: none
@@ -122,6 +125,11 @@ pub record TextAt (text : List ℕ) (at : ℕ) : Type 0 where
   pub is : CharAt text at char len
   pub no-blank : is-blank char ≡ false
   pub no-break : is-break char ≡ false
+
+-- a refusal leaves the lent bytes all zero; else what they hold is told by what is written
+abbrev pub EndLeaves : List ℕ → List ℕ → End → Type 0
+EndLeaves before after (Closed p n) = length after ≡ length before
+EndLeaves before after (Refused f) = after ≡ replicate (length before) 0
 
 -- the contract of the whole run, from behind the opening quote
 pub record RunEnds (text : List ℕ) (q : Quote) (before after : List ℕ) (e : End) : Type 0 where

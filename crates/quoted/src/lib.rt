@@ -1,16 +1,13 @@
 // Quoted scalars (33 to 40).
-ghost use Prim.Native.Nat.{_*_, _<_, _^_, _≤_, ℕ};
-ghost use mathlib.Core.List.{List};
+ghost use Prim.Native.Nat.{_*_, _<_, _^_, _≤_};
 ghost use mathlib.Core.Path.{_≡_};
 ghost use lib.ListN.{length};
 ghost use Rattle.yaml_text.specs.Pick.{pick};
-ghost use Rattle.yaml_text.specs.Utf8.{encode};
 ghost use Rattle.yaml_lexeme.specs.declared.Style.the-variants.{DoubleQuoted, SingleQuoted};
 ghost use Rattle.yaml_lexeme.specs.Quoted.{fits-after, scan-flow-scalar};
 ghost use Rattle.chars.specs.View.{Stands, view};
-ghost use Rattle.reading.specs.Answers.{Answers};
 ghost use Rattle.reading.specs.Reading.{Indicated, Lexes, first-at};
-ghost use Rattle.quoted.specs.After.{after-run};
+ghost use Rattle.quoted.specs.After.{Follows, held-after};
 ghost use Rattle.quoted.specs.Advance.{RunEnds, quote-of};
 
 mod fold;
@@ -23,6 +20,10 @@ use crate::turns::Quote;
 use crate::turns::Turned;
 use crate::turns::quoted_turn;
 use chars::class::is_breakz;
+use chars::code::CLOSE_BRACE;
+use chars::code::CLOSE_BRACKET;
+use chars::code::COLON;
+use chars::code::COMMA;
 use chars::mark::Place;
 use reading::Reached;
 use reading::Reading;
@@ -34,7 +35,6 @@ use utf8::look;
 use yaml_lexeme::Kind;
 use yaml_lexeme::Style;
 use yaml_text::Mark;
-use yaml_text::Refusal;
 
 // The scalar's text from behind its opening quote.
 fn quoted_run(text: &[u8], q: Quote, out: &mut [u8]) -> End
@@ -65,7 +65,9 @@ fn quoted_run(text: &[u8], q: Quote, out: &mut [u8]) -> End
 fn fits_after(flow: bool, same: bool, c: u32) -> bool
     ensures { λ r. ⌜ r ≡ fits-after flow same c ⌝ }
 {
-    is_breakz(c) | flow & ((c == 44) | (c == 93) | (c == 125)) | (c == 58) & (flow | same)
+    is_breakz(c)
+        | flow & ((c == COMMA) | (c == CLOSE_BRACKET) | (c == CLOSE_BRACE))
+        | (c == COLON) & (flow | same)
 }
 
 fn quoted_style(single: bool) -> Style
@@ -79,8 +81,8 @@ fn quoted_style(single: bool) -> Style
 
 // What follows the closing quote, of a text of n bytes.
 fn after_quote(text: &[u8], q: Quote, flow: bool, p: Place, used: u32, n: usize) -> Reading
-    requires { ⌜ Stands (now text) p × (1 ≤ p .at) × (n ≤ 3 * p .at) × (length (now text) ≤ 2 ^ 20) ⌝ }
-    ensures { λ r. ⌜ ((t : List ℕ) → length (encode t) ≡ n → Answers (now (text .entry)) used r (after-run flow (quote-of q) (record { text = t; place = view (now (text .entry)) p }))) ⌝ }
+    requires { ⌜ Stands (now text) p × (1 ≤ p .at) × (n ≤ 3 * p .at) ⌝ }
+    ensures { λ r. ⌜ Follows (now (text .entry)) r (held-after flow (quote-of q) used n (view (now (text .entry)) p)) ⌝ }
 {
     let r = gaps::blanks_and_comment(text, p);
     match r {
@@ -91,7 +93,10 @@ fn after_quote(text: &[u8], q: Quote, flow: bool, p: Place, used: u32, n: usize)
             let start = q.start;
             if fits_after(flow, start.line == m.line, look(text, at)) {
                 return got(
-                    Kind::Scalar(quoted_style(q.single), text_at(used, n)),
+                    Kind::Scalar {
+                        style: quoted_style(q.single),
+                        text: text_at(used, n),
+                    },
                     start,
                     m,
                     e,

@@ -3,6 +3,7 @@ ghost use Prim.Native.Nat.{_+_, _<_, _^_, _≤_};
 ghost use mathlib.Core.Bool.{false};
 ghost use mathlib.Core.Path.{_≡_};
 ghost use lib.ListN.{drop, getD, length, replicate};
+ghost use Rattle.yaml_text.specs.Char.{backslash};
 ghost use Rattle.yaml_text.specs.Mark.{break-length};
 ghost use Rattle.yaml_text.specs.Utf8.{chars};
 ghost use Rattle.chars.specs.Bytes.{CharAt};
@@ -21,6 +22,8 @@ use crate::fold::is_checked;
 use crate::fold::put_kept;
 use chars::class::is_blank;
 use chars::class::is_break;
+use chars::code::BACKSLASH;
+use chars::code::TAB;
 use chars::mark::Place;
 use chars::mark::break_length;
 use chars::mark::is_marker;
@@ -91,7 +94,7 @@ fn on_blank(q: Quote, t: Progress, c: u32, out: &mut [u8]) -> Turned
     let p = t.place;
     let m = p.mark;
     let mode = t.mode;
-    if is_broken(mode) & (c == 9) & (m.col + 1 < q.indent) {
+    if is_broken(mode) & (c == TAB) & (m.col + 1 < q.indent) {
         return wrong(36, m, out);
     }
     goes(p.skip_blank(), after_blank(mode, p.at), t.count)
@@ -146,7 +149,7 @@ fn refusal_number(e: Escape) -> u32
 
 // A backslash: an escaped break, or an escape.
 fn on_backslash(text: &[u8], q: Quote, p: Place, n: usize, out: &mut [u8]) -> Turned
-    requires { ⌜ Sound (now text) (text-turn p n) × CharAt (now text) (p .at) 92 1 × (q .single ≡ false) ⌝ }
+    requires { ⌜ Sound (now text) (text-turn p n) × CharAt (now text) (p .at) backslash 1 × (q .single ≡ false) ⌝ }
     ensures { λ r. ⌜ Advances (now (text .entry)) q (now (out .entry)) (now (out .exit)) (text-turn p n) r ⌝ }
 {
     let at = p.at;
@@ -175,7 +178,7 @@ fn is_ordinary(b: u8) -> bool
 fn is_special(c: u32, single: bool) -> bool
     ensures { λ r. ⌜ r ≡ special single c ⌝ }
 {
-    is_blank(c) | is_break(c) | (c == quote_char(single) as u32) | !single & (c == 92)
+    is_blank(c) | is_break(c) | (c == quote_char(single) as u32) | !single & (c == BACKSLASH)
 }
 
 // Whether the byte b at a place is a space before text that stands for itself. spaces: whether any counts.

@@ -5,10 +5,11 @@ use mathlib.Core.List.{List}
 use mathlib.Core.Path.{_∙_, _≡_, ap, sym}
 use native.Mathlib.Omega.{arith}
 use lib.ListN.{drop, length, length-drop, length-take, take}
+use Rattle.yaml_text.specs.Class.{same}
 use Rattle.yaml_lexeme.specs.declared.Recorded.{Recorded}
 use Rattle.yaml_lexeme.specs.declared.Recorded.the-variants.{Found, NoToken}
 use Rattle.yaml_lexeme.specs.declared.Token.{Token}
-use Rattle.yaml_lexeme.specs.Record.{if-record, record-of, record-words, same-words, token-by-number, token-of}
+use Rattle.yaml_lexeme.specs.Record.{if-record, record-of, record-words, token-by-number, token-of}
 use Rattle.yaml_lexeme.specs.RecordLaws.{no-record}
 
 module _ (w : List ℕ) {r : Recorded} (e : r ≡ token-by-number w) where
@@ -19,11 +20,11 @@ module _ (w : List ℕ) {r : Recorded} (e : r ≡ token-by-number w) where
   pub none-numbered : r ≡ NoToken → NoToken ≡ token-of w
   none-numbered f = by-number NoToken f
 
-  pub its-record : (t : Token) {l : List ℕ} {b : Bool} → r ≡ Found t → l ≡ record-of t → b ≡ same-words l w → b ≡ true → Found t ≡ token-of w
-  its-record t f g h k = let s : same-words (record-of t) w ≡ true = ap (λ (l : List ℕ). same-words l w) (sym g) ∙ sym h ∙ k in rw (s, if-record) at (by-number (Found t) f)
+  pub its-record : (t : Token) {l : List ℕ} {b : Bool} → r ≡ Found t → l ≡ record-of t → b ≡ same l w → b ≡ true → Found t ≡ token-of w
+  its-record t f g h k = let s : same (record-of t) w ≡ true = ap (λ (l : List ℕ). same l w) (sym g) ∙ sym h ∙ k in rw (s, if-record) at (by-number (Found t) f)
 
-  pub not-its-record : (t : Token) {l : List ℕ} {b : Bool} → r ≡ Found t → l ≡ record-of t → b ≡ same-words l w → b ≡ false → NoToken ≡ token-of w
-  not-its-record t f g h k = let s : same-words (record-of t) w ≡ false = ap (λ (l : List ℕ). same-words l w) (sym g) ∙ sym h ∙ k in rw (s, if-record) at (by-number (Found t) f)
+  pub not-its-record : (t : Token) {l : List ℕ} {b : Bool} → r ≡ Found t → l ≡ record-of t → b ≡ same l w → b ≡ false → NoToken ≡ token-of w
+  not-its-record t f g h k = let s : same (record-of t) w ≡ false = ap (λ (l : List ℕ). same l w) (sym g) ∙ sym h ∙ k in rw (s, if-record) at (by-number (Found t) f)
 
 -- fewer words than a record has
 pub too-short : (l : List ℕ) (at : ℕ) → length l < at + record-words → NoToken ≡ token-of (take record-words (drop at l))

@@ -1,7 +1,11 @@
 // The token of a record.
 ghost use mathlib.Core.Path.{_≡_};
 ghost use lib.ListN.{drop, getD, take};
-ghost use Rattle.yaml_lexeme.specs.Record.{numbered, record-words, same-words, scalar-rows, token-by-number, token-of, with-marks};
+ghost use Rattle.yaml_text.specs.Class.{same};
+ghost use Rattle.yaml_lexeme.specs.declared.Kind.the-variants.{ReservedDirective, Scalar, Tag, TagDirective, VersionDirective};
+ghost use Rattle.yaml_lexeme.specs.declared.Recorded.the-variants.{NoToken};
+ghost use Rattle.yaml_lexeme.specs.Table.{looked-up};
+ghost use Rattle.yaml_lexeme.specs.Record.{record-words, scalar-rows, token-by-number, token-of, with-marks};
 use crate::RECORD_WORDS;
 use crate::load;
 use crate::token::record_of;
@@ -33,16 +37,47 @@ fn with_marks(w: [u32; RECORD_WORDS], k: Kind) -> Recorded
     })
 }
 
+// The kinds of more than one field.
+fn version_directive(w: [u32; RECORD_WORDS], major: u32, minor: u32) -> Recorded
+    ensures { λ r. ⌜ r ≡ with-marks w (VersionDirective major minor) ⌝ }
+{
+    with_marks(w, Kind::VersionDirective { major, minor })
+}
+
+fn tag_directive(w: [u32; RECORD_WORDS], handle: Text, prefix: Text) -> Recorded
+    ensures { λ r. ⌜ r ≡ with-marks w (TagDirective handle prefix) ⌝ }
+{
+    with_marks(w, Kind::TagDirective { handle, prefix })
+}
+
+fn tag(w: [u32; RECORD_WORDS], handle: Text, suffix: Text) -> Recorded
+    ensures { λ r. ⌜ r ≡ with-marks w (Tag handle suffix) ⌝ }
+{
+    with_marks(w, Kind::Tag { handle, suffix })
+}
+
+fn reserved_directive(w: [u32; RECORD_WORDS], name: Text, parameters: Text) -> Recorded
+    ensures { λ r. ⌜ r ≡ with-marks w (ReservedDirective name parameters) ⌝ }
+{
+    with_marks(w, Kind::ReservedDirective { name, parameters })
+}
+
+fn styled(w: [u32; RECORD_WORDS], style: Style, text: Text) -> Recorded
+    ensures { λ r. ⌜ r ≡ with-marks w (Scalar style text) ⌝ }
+{
+    with_marks(w, Kind::Scalar { style, text })
+}
+
 // A scalar, by the number of its style.
 fn scalar(w: [u32; RECORD_WORDS], t: Text) -> Recorded
-    ensures { λ r. ⌜ r ≡ numbered (getD w 11 0) (scalar-rows w t) ⌝ }
+    ensures { λ r. ⌜ r ≡ looked-up NoToken (getD w 11 0) (scalar-rows w t) ⌝ }
 {
     match w[11] {
-        1 => with_marks(w, Kind::Scalar(Style::Plain, t)),
-        2 => with_marks(w, Kind::Scalar(Style::SingleQuoted, t)),
-        3 => with_marks(w, Kind::Scalar(Style::DoubleQuoted, t)),
-        4 => with_marks(w, Kind::Scalar(Style::Literal, t)),
-        5 => with_marks(w, Kind::Scalar(Style::Folded, t)),
+        1 => styled(w, Style::Plain, t),
+        2 => styled(w, Style::SingleQuoted, t),
+        3 => styled(w, Style::DoubleQuoted, t),
+        4 => styled(w, Style::Literal, t),
+        5 => styled(w, Style::Folded, t),
         _ => Recorded::NoToken,
     }
 }
@@ -62,8 +97,8 @@ fn token_by_number(w: [u32; RECORD_WORDS]) -> Recorded
     match w[0] {
         1 => with_marks(w, Kind::StreamStart),
         2 => with_marks(w, Kind::StreamEnd),
-        3 => with_marks(w, Kind::VersionDirective(w[7], w[8])),
-        4 => with_marks(w, Kind::TagDirective(t, u)),
+        3 => version_directive(w, w[7], w[8]),
+        4 => tag_directive(w, t, u),
         5 => with_marks(w, Kind::DocumentStart),
         6 => with_marks(w, Kind::DocumentEnd),
         7 => with_marks(w, Kind::ByteOrderMark),
@@ -80,15 +115,15 @@ fn token_by_number(w: [u32; RECORD_WORDS]) -> Recorded
         18 => with_marks(w, Kind::Value),
         19 => with_marks(w, Kind::Alias(t)),
         20 => with_marks(w, Kind::Anchor(t)),
-        21 => with_marks(w, Kind::Tag(t, u)),
+        21 => tag(w, t, u),
         22 => scalar(w, t),
-        23 => with_marks(w, Kind::ReservedDirective(t, u)),
+        23 => reserved_directive(w, t, u),
         _ => Recorded::NoToken,
     }
 }
 
 fn same_words(a: &[u32], b: &[u32]) -> bool
-    ensures { λ r. ⌜ r ≡ same-words (now (a .entry)) (now (b .entry)) ⌝ }
+    ensures { λ r. ⌜ r ≡ same (now (a .entry)) (now (b .entry)) ⌝ }
 {
     if a.len() != b.len() {
         return false;

@@ -13,7 +13,7 @@ ghost use Rattle.records.specs.Note.{empty-at, note-in, noted-word, with
 pub const RECORD_WORDS: usize = 12;
 
 // Word 1 of a record with a note is the number of its kind and so many times the note.
-pub const NOTE_BASE: u32 = 32;
+const NOTE_BASE: u32 = 32;
 
 // The words of the record that begins at `at`.
 pub fn load(words: &[u32], at: usize) -> [u32; RECORD_WORDS]

@@ -14,8 +14,8 @@ fn kind_place(k: Kind) -> u32
     match k {
         Kind::StreamStart => 1,
         Kind::StreamEnd => 2,
-        Kind::VersionDirective(_, _) => 3,
-        Kind::TagDirective(_, _) => 4,
+        Kind::VersionDirective { .. } => 3,
+        Kind::TagDirective { .. } => 4,
         Kind::DocumentStart => 5,
         Kind::DocumentEnd => 6,
         Kind::ByteOrderMark => 7,
@@ -32,9 +32,9 @@ fn kind_place(k: Kind) -> u32
         Kind::Value => 18,
         Kind::Alias(_) => 19,
         Kind::Anchor(_) => 20,
-        Kind::Tag(_, _) => 21,
-        Kind::Scalar(_, _) => 22,
-        Kind::ReservedDirective(_, _) => 23,
+        Kind::Tag { .. } => 21,
+        Kind::Scalar { .. } => 22,
+        Kind::ReservedDirective { .. } => 23,
     }
 }
 
@@ -63,13 +63,19 @@ fn values_of(k: Kind) -> [u32; 5]
     ensures { λ r. ⌜ r ≡ five (values-of k) ⌝ }
 {
     match k {
-        Kind::VersionDirective(a, b) => [a, b, 0, 0, 0],
-        Kind::TagDirective(a, b) => [a.at, a.len, b.at, b.len, 0],
+        Kind::VersionDirective { major, minor } => [major, minor, 0, 0, 0],
+        Kind::TagDirective { handle, prefix } => [handle.at, handle.len, prefix.at, prefix.len, 0],
         Kind::Alias(a) => [a.at, a.len, 0, 0, 0],
         Kind::Anchor(a) => [a.at, a.len, 0, 0, 0],
-        Kind::Tag(a, b) => [a.at, a.len, b.at, b.len, 0],
-        Kind::Scalar(s, a) => [a.at, a.len, 0, 0, style_number(s)],
-        Kind::ReservedDirective(a, b) => [a.at, a.len, b.at, b.len, 0],
+        Kind::Tag { handle, suffix } => [handle.at, handle.len, suffix.at, suffix.len, 0],
+        Kind::Scalar { style, text } => [text.at, text.len, 0, 0, style_number(style)],
+        Kind::ReservedDirective { name, parameters } => [
+            name.at,
+            name.len,
+            parameters.at,
+            parameters.len,
+            0,
+        ],
         _ => [0, 0, 0, 0, 0],
     }
 }

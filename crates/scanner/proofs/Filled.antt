@@ -27,7 +27,7 @@ use Rattle.rooms.specs.Room.{cleared}
 use Rattle.events.specs.declared.Counts.{Counts}
 use Rattle.sink.specs.Run.{outcome-records, outcome-texts}
 use Rattle.sink.specs.Settle.{front, settled-words}
-use Rattle.sink.specs.Stored.{no-counts, tokens-counted}
+use Rattle.sink.specs.Stored.{no-counts, stored-words, tokens-counted}
 use Rattle.validity.specs.declared.Checked.the-variants as Checked
 use Rattle.validity.specs.Checked.{checked}
 use Rattle.validity.specs.CheckedLaws.{passed-chars, refused-as}
@@ -128,7 +128,7 @@ module _ (limits : Limits) (text : List ℕ) {l b l' b' : List ℕ} {m : Counts}
   settles k =
       record {
         small = omega (arith, w .few);
-        number = λ h. counted-tokens ∙ sym (rw (counted-puts, w .stored .words) (outcome-records limits text (w .said) (w .same) l (omega (arith, counted-tokens)) .number));
+        number = λ h. counted-tokens ∙ sym (rw (counted-puts, stored-words (w .stored)) (outcome-records limits text (w .said) (w .same) l (omega (arith, counted-tokens)) .number));
       }
 
   words-filled : length ts ≤ length l / record-words → cleared (settled-words (m .count) l') (length ts * record-words) ≡ filled (length l) (records 0 ts)
@@ -137,7 +137,7 @@ module _ (limits : Limits) (text : List ℕ) {l b l' b' : List ℕ} {m : Counts}
       let r = records-length 0 ts in
       let rest = drop (length ts * record-words) l in
       let n : length (records 0 ts ++ rest) ≡ length l = omega (arith, length-append (records 0 ts) rest, length-drop (length ts * record-words) l) in
-      rw (counted-puts, w .stored .words, k) (cleared-front (records 0 ts) rest (length ts * record-words) r ∙ rw n)
+      rw (counted-puts, stored-words (w .stored), k) (cleared-front (records 0 ts) rest (length ts * record-words) r ∙ rw n)
 
   bytes-filled : length (texts ts) ≤ length b → cleared b' (length (texts ts)) ≡ filled (length b) (texts ts)
   bytes-filled h = rw (w .stored .bytes, ← outcome-texts limits text (w .said) (w .same)) (cleared-text (texts ts) b h)

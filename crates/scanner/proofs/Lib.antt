@@ -1,3 +1,2 @@
-pub mod Going
-pub mod Taken
+pub mod Start
 pub mod Filled

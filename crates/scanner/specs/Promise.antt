@@ -6,18 +6,17 @@ use mathlib.Core.Path.{_≡_}
 use native.Mathlib.Omega.{arith}
 use lib.Dec.{ltb}
 use lib.ListN.{length}
-use borrow.Author.Tests.{le-ltb, ltb-false}
 use Rattle.yaml_text.specs.Mark.{origin}
-use Rattle.yaml_text.specs.Pick.{pick}
-use Rattle.yaml_text.specs.Test.{by-test}
 use Rattle.yaml_lexeme.specs.Record.{record-words}
 use Rattle.yaml_scan.specs.declared.Limits.{Limits}
 use Rattle.yaml_scan.specs.Scan.{Verdict, accepted, answer, blank-answer, refusal, standard}
 use Rattle.yaml_scan.specs.Scan as definition
 use Rattle.rooms.specs.Room.{cleared}
+use Rattle.stacks.specs.Most.{at-most, at-most-fits, at-most-stays}
 use Rattle.events.specs.declared.Counts.{Counts}
 use Rattle.sink.specs.Settle.{front, settled-words, total-records}
 use Rattle.sink.specs.Stored.{tokens-counted}
+use Rattle.driver.specs.Held.{Modest}
 use Rattle.scanner.specs.declared.Answer.{Answer}
 use Rattle.scanner.specs.declared.Answer.the-variants.{Accepted, Refused}
 
@@ -36,9 +35,6 @@ Answers limits text words₀ bytes₀ words bytes r = answer-of r words bytes �
 
 -- a limit above 01's counts as 01's
 
-unfoldable pub at-most : ℕ → ℕ → ℕ
-at-most most n = pick (ltb most n) most n
-
 abbrev pub capped : Limits → Limits
 capped limits =
     record {
@@ -47,19 +43,7 @@ capped limits =
       entries = at-most (standard .entries) (limits .entries);
     }
 
--- limits that are at most 01's
-pub record Modest (limits : Limits) : Type 0 where
-  pub bytes : limits .bytes ≤ standard .bytes
-  pub levels : limits .levels ≤ standard .levels
-  pub entries : limits .entries ≤ standard .entries
-
-at-most-fits : (most n : ℕ) → at-most most n ≤ most
-unfolding at-most
-at-most-fits most n = by-test (ltb most n) (λ e. rw e (omega arith)) (λ e. rw e (ltb-false most n e))
-
-at-most-stays : (most n : ℕ) → n ≤ most → at-most most n ≡ n
-unfolding at-most
-at-most-stays most n h = rw (le-ltb most n h)
+-- it is at most 01's
 
 pub capped-modest : (limits : Limits) → Modest (capped limits)
 capped-modest limits =

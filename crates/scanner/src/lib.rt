@@ -6,10 +6,12 @@ ghost use lib.ListN.{length};
 ghost use Rattle.yaml_text.specs.Mark.{origin};
 ghost use Rattle.yaml_scan.specs.Scan.{blank-answer, outcome, refusal, standard};
 ghost use Rattle.sink.specs.Stored.{no-counts};
-ghost use Rattle.scanner.specs.Promise.{Answers, Modest, Settles, answer-of, at-most, capped, lent-of};
+ghost use Rattle.stacks.specs.Most.{at-most};
+ghost use Rattle.driver.specs.Held.{Modest};
+ghost use Rattle.scanner.specs.Promise.{Answers, Settles, answer-of, capped, lent-of};
 ghost use Rattle.scanner.specs.Run.{RunComes};
-use crate::run::Outcome;
 use crate::run::run;
+use driver::Outcome;
 use events::Counts;
 use records::RECORD_WORDS;
 use rooms::clear_from;
@@ -95,6 +97,8 @@ fn scan_within(limits: Limits, text: &[u8], words: &mut [u32], bytes: &mut [u8])
     match o {
         Outcome::Stopped(f) => refused(f, 0, 0, words, bytes),
         Outcome::Scanned(n) => lent(n, words, bytes),
+        // Tokens are not given one at a time: it does not come.
+        Outcome::Ready => refused(outside(0), 0, 0, words, bytes),
     }
 }
 

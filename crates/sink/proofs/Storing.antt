@@ -18,11 +18,11 @@ use Rattle.events.specs.declared.Opening.the-variants as opening
 use Rattle.events.specs.Event.{brief-event}
 use Rattle.events.specs.Event.{opening-if}
 use Rattle.events.specs.Event.{empty-of}
-use Rattle.sink.specs.StepTokens.{end-tokens, event-tokens, noted-words, opening-tokens, put-news}
+use Rattle.sink.specs.StepTokens.{end-tokens, event-tokens, note-from, noted-words, opening-tokens, put-news}
 use Rattle.sink.specs.Store.{put-list, put-list-append, put-record}
 
-pub noted : (l : List ℕ) {o : List ℕ} {n k : Note} → o ≡ noted-words l k → n ≡ k → o ≡ noted-words l n
-noted l e f = e ∙ ap (λ (x : Note). noted-words l x) (sym f)
+pub noted : (base : ℕ) (l : List ℕ) {o : List ℕ} {n k : Note} → o ≡ noted-words l (note-from base k) → n ≡ k → o ≡ noted-words l (note-from base n)
+noted base l e f = e ∙ ap (λ (x : Note). noted-words l (note-from base x)) (sym f)
 
 -- BlockEnds one by one: what is left gives the whole
 pub ends-start : (l : List ℕ) (m : Mark) (n k : ℕ) → put-list l n (end-tokens k m) ≡ put-list l n (end-tokens (n + k - n) m)

@@ -128,22 +128,24 @@ same-note used ts e = ap note-number (same-tokens used ts (rw e (note-no-text (n
 same-store : (es : List Event) {l l' : List ℕ} {n n' used used' : ℕ} → l ≡ l' → n ≡ n' → used ≡ used' → store-events l n used es ≡ store-events l' n' used' es
 same-store es e f g = rw (e, f, g)
 
-pub events-stored : (es : List Event) (gs : List Given) (xs : List Slot) (l : List ℕ) → Holds gs xs → Placed gs es → Notes es → length (slots xs es) * record-words ≤ length l
-    → store-events (with-slots xs l) (length xs) (used-by xs) es ≡ with-slots (slots xs es) l
+-- so many bytes of text having come before the slots
+pub events-stored : (used : ℕ) (es : List Event) (gs : List Given) (xs : List Slot) (l : List ℕ) → Holds gs xs → Placed gs es → Notes es
+    → length (slots xs es) * record-words ≤ length l → store-events (with-slots used xs l) (length xs) (used + used-by xs) es ≡ with-slots used (slots xs es) l
 unfolding Placed Notes slots store-laid laid-events
-events-stored [] gs xs l h p k r = refl
-events-stored (put t ∷ es) gs xs l h p k r =
+events-stored used [] gs xs l h p k r = refl
+events-stored used (put t ∷ es) gs xs l h p k r =
     let ys = xs ++ (slot t [] ∷ []) in
     let e = slots-length ys es in
     let f = length-more xs (slot t []) in
     let g : suc (length xs) * record-words ≤ length l = omega arith in
-    let u : used-by xs + length (token-bytes t) ≡ used-by ys = sym (ap length (texts-put xs t) ∙ length-append (slot-texts xs) (token-bytes t)) in
-    same-store es (slots-put xs t l g) (sym f) u ∙ events-stored es (gs ++ (fresh (t .start) ∷ [])) ys l (holds-more gs xs t h) p k r
-events-stored (put-before n ts ∷ es) gs xs l h p k r =
+    let u : used + used-by xs + length (token-bytes t) ≡ used + used-by ys = omega (arith, ap length (texts-put xs t), length-append (slot-texts xs) (token-bytes t)) in
+    same-store es (slots-put used xs t l g) (sym f) u ∙ events-stored used es (gs ++ (fresh (t .start) ∷ [])) ys l (holds-more gs xs t h) p k r
+events-stored used (put-before n ts ∷ es) gs xs l h p k r =
     let ys = note n ts xs in
     let e = slots-length ys es in
     let f = note-length n ts xs in
     let g : length xs * record-words ≤ length l = omega arith in
     let i : n < length xs = omega (arith, p .1 .0, holds-length gs xs h) in
-    same-store es (ap (put-note (with-slots xs l) n) (same-note (used-by xs) ts (k .0)) ∙ slots-note n ts xs l i g) (sym f) (ap length (sym (texts-note n ts xs)))
-    ∙ events-stored es (note-at n gs) ys l (holds-noted gs xs n ts h) (p .3) (k .1) r
+    same-store es (ap (put-note (with-slots used xs l) n) (same-note (used + used-by xs) ts (k .0)) ∙ slots-note n used ts xs l i g) (sym f)
+    (ap (λ (b : List ℕ). used + length b) (sym (texts-note n ts xs)))
+    ∙ events-stored used es (note-at n gs) ys l (holds-noted gs xs n ts h) (p .3) (k .1) r

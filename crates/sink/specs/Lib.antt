@@ -4,6 +4,7 @@ pub mod Settle
 pub mod SlotWords
 pub mod SlotsSettled
 pub mod EventsStored
+pub mod CountedFrom
 pub mod StepStored
 pub mod Stored
 pub mod OnlyNotes

@@ -42,7 +42,7 @@ module _ (limits : Limits) (bytes : List ℕ) (es : List Event) (says : outcome 
       let xs = slots [] es in
       let e : length xs ≡ puts es = (let a = slots-length [] es in omega arith) in
       let g : length xs * record-words ≤ length l = omega (arith, flat-least xs) in
-      let r = rw (sym (events-stored es [] [] l tt placed notes g), e) at (slots-settled xs l all-noted) in
+      let r = rw (sym (events-stored 0 es [] [] l tt placed notes g), e) at (slots-settled 0 xs l all-noted) in
       record { number = r .0; words = r .1 }
 
   -- what is put in has no text

@@ -49,9 +49,9 @@ slot-texts (x ∷ xs) = token-bytes (x .token) ++ slot-texts xs
 abbrev pub used-by : List Slot → ℕ
 used-by xs = length (slot-texts xs)
 
--- the words l with these slots in front
-abbrev pub with-slots : List Slot → List ℕ → List ℕ
-with-slots xs l = slot-words 0 xs ++ drop (length xs * record-words) l
+-- the words l with these slots in front, so many bytes of text having come before
+abbrev pub with-slots : ℕ → List Slot → List ℕ → List ℕ
+with-slots used xs l = slot-words used xs ++ drop (length xs * record-words) l
 
 pub slot-record-length : (used : ℕ) (x : Slot) → length (slot-record used x) ≡ record-words
 slot-record-length used x = with-note-length (laid-token used (x .token)) (note-of (x .before))
@@ -98,13 +98,12 @@ pub length-more : (xs : List Slot) (x : Slot) → length (xs ++ (x ∷ [])) ≡ 
 length-more xs x = let e = length-append xs (x ∷ []) in omega arith
 
 -- (a) the record of a token, its texts behind those of the slots, goes into the next slot
-pub slots-put : (xs : List Slot) (t : Token) (l : List ℕ) → suc (length xs) * record-words ≤ length l
-    → put-record (with-slots xs l) (length xs) (laid-record (used-by xs) t) ≡ with-slots (xs ++ (slot t [] ∷ [])) l
-slots-put xs t l h =
-    let z : 0 + used-by xs ≡ used-by xs = omega arith in
-    let m : slot-words 0 (xs ++ (slot t [] ∷ [])) ≡ slot-words 0 xs ++ laid-record (used-by xs) t = rw z at (slot-words-more 0 t xs) in
-    put-behind (slot-words 0 xs) (laid-record (used-by xs) t) l (length xs) (slot-words-length 0 xs) (record-length (laid-token (used-by xs) t)) h
-    ∙ rw (m, length-more xs (slot t []))
+pub slots-put : (used : ℕ) (xs : List Slot) (t : Token) (l : List ℕ) → suc (length xs) * record-words ≤ length l
+    → put-record (with-slots used xs l) (length xs) (laid-record (used + used-by xs) t) ≡ with-slots used (xs ++ (slot t [] ∷ [])) l
+slots-put used xs t l h =
+    let u = used + used-by xs in
+    put-behind (slot-words used xs) (laid-record u t) l (length xs) (slot-words-length used xs) (record-length (laid-token u t)) h
+    ∙ rw (slot-words-more used t xs, length-more xs (slot t []))
 
 note-there : (n used : ℕ) (ts : List Token) (xs : List Slot) (l : List ℕ) → n < length xs
     → set (slot-words used xs ++ l) (n * record-words) (noted-word (slot-words used xs ++ l) (n * record-words) (note-of ts)) ≡ slot-words used (note n ts xs) ++ l
@@ -123,10 +122,10 @@ note-there (suc n) used ts (x ∷ xs) l h =
     (sym (append-assoc r (slot-words u (note n ts xs)) l))
 
 -- (b) a note on the token of a slot
-pub slots-note : (n : ℕ) (ts : List Token) (xs : List Slot) (l : List ℕ) → n < length xs → length xs * record-words ≤ length l
-    → put-note (with-slots xs l) n (note-of ts) ≡ with-slots (note n ts xs) l
-slots-note n ts xs l h g =
+pub slots-note : (n used : ℕ) (ts : List Token) (xs : List Slot) (l : List ℕ) → n < length xs → length xs * record-words ≤ length l
+    → put-note (with-slots used xs l) n (note-of ts) ≡ with-slots used (note n ts xs) l
+slots-note n used ts xs l h g =
     let d = drop (length xs * record-words) l in
-    let e = length-append (slot-words 0 xs) d in
-    let f = slot-words-length 0 xs in
-    put-note-in (with-slots xs l) n (note-of ts) (omega arith) ∙ note-there n 0 ts xs d h ∙ rw (note-length n ts xs)
+    let e = length-append (slot-words used xs) d in
+    let f = slot-words-length used xs in
+    put-note-in (with-slots used xs l) n (note-of ts) (omega arith) ∙ note-there n used ts xs d h ∙ rw (note-length n ts xs)

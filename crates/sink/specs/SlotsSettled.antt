@@ -122,15 +122,16 @@ flat-least [] = omega arith
 flat-least (x ∷ xs) = let e = length-append (x .before) (x .token ∷ flat xs) in let h = flat-least xs in omega arith
 
 -- (c) the pass makes the records of the definition
-pub slots-settled : (xs : List Slot) (l : List ℕ) → AllNoted xs
-    → (total-records (front (length xs) (with-slots xs l)) ≡ length (flat xs)) × (settled-words (length xs) (with-slots xs l) ≡ records 0 (flat xs) ++ drop (length (flat xs) * record-words) l)
-slots-settled xs l h =
+pub slots-settled : (used : ℕ) (xs : List Slot) (l : List ℕ) → AllNoted xs
+    → (total-records (front (length xs) (with-slots used xs l)) ≡ length (flat xs))
+    × (settled-words (length xs) (with-slots used xs l) ≡ records used (flat xs) ++ drop (length (flat xs) * record-words) l)
+slots-settled used xs l h =
     let p = length xs * record-words in
     let q = length (flat xs) * record-words in
-    let a = slot-words 0 xs in
-    let s = settles 0 xs (drop p l) h in
+    let a = slot-words used xs in
+    let s = settles used xs (drop p l) h in
     let least = flat-least xs in
-    let e : q ≡ length a + (q - p) = (let f = slot-words-length 0 xs in omega arith) in
+    let e : q ≡ length a + (q - p) = (let f = slot-words-length used xs in omega arith) in
     let b : p + (q - p) ≡ q = omega arith in
     let back : drop q (a ++ drop p l) ≡ drop q l =
     ap (λ (i : ℕ). drop i (a ++ drop p l)) e ∙ drop-append-add a (drop p l) (q - p) ∙ drop-drop (q - p) p l ∙ rw b in

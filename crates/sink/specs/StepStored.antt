@@ -9,6 +9,7 @@ use Rattle.yaml_lexeme.specs.declared.Kind.the-variants as kind
 use Rattle.yaml_lexeme.specs.declared.Token.{Token}
 use Rattle.yaml_lexeme.specs.Record.{number-of, record-of}
 use Rattle.yaml_scan.specs.State as definition
+use Rattle.yaml_stream.specs.Stream.{counted-from}
 use Rattle.events.specs.declared.Event.{Event}
 use Rattle.events.specs.declared.Note.{Note}
 use Rattle.events.specs.declared.Note.the-variants.{Block, Key, Nothing, Pair}
@@ -16,10 +17,11 @@ use Rattle.events.specs.declared.Opening.{Opening}
 use Rattle.events.specs.declared.Opening.the-variants as opening
 use Rattle.events.specs.Event.{LaidEvent, empty-of, ends-of, laid-events, laid-of, noted-of, opened-of, put}
 use Rattle.events.specs.Laid.{laid-ends}
-use Rattle.sink.specs.StepTokens.{end-tokens, event-tokens, noted-words, opening-tokens, put-news}
+use Rattle.sink.specs.StepTokens.{end-tokens, event-tokens, noted-words, opening-tokens, put-news, shifted}
 use Rattle.sink.specs.Store.{put-list, put-list-append, put-record}
 use Rattle.sink.specs.SlotWords.{note-number}
 use Rattle.sink.specs.EventsStored.{store-events, store-laid}
+use Rattle.sink.specs.CountedFrom.{counted-ends, shifted-laid}
 
 -- tokens in a row
 
@@ -64,13 +66,20 @@ store-note l (Key k) m n hs = refl
 store-note l (Pair k) m n hs = refl
 store-note l (Block k) m n hs = refl
 
--- what put_news stores, where the event stands for these events of the definition
-pub news-stored : (e : Event) (here : Mark) (ended : ℕ) (m : Mark) (l : List ℕ) (n used : ℕ) (es : List definition.Event) → laid-of m e ≡ laid-events used es
+-- a step's, where its event stands for these events of the definition
+event-stored : (e : Event) (here : Mark) (ended : ℕ) (m : Mark) (l : List ℕ) (n used : ℕ) (es : List definition.Event) → laid-of m e ≡ laid-events used es
     → put-news l n here ended e ≡ store-events l n used (definition.block-ends ended here ++ es)
 unfolding laid-of
-news-stored e here ended m l n used es s =
+event-stored e here ended m l n used es s =
     let a = put-list l n (end-tokens ended here) in
     let k = n + ended in
     sym (store-ends ended here l n (laid-of m e) ∙ store-note a (e .note) m k _ ∙ store-event e (noted-words a (e .note)) k)
     ∙ ap (λ (hs : List LaidEvent). store-laid l n (ends-of ended here ++ hs)) s
     ∙ ap (λ (hs : List LaidEvent). store-laid l n hs) (sym (laid-ends here es used ended))
+
+-- what put_news stores
+pub news-stored : (base : ℕ) (e : Event) (here : Mark) (ended : ℕ) (m : Mark) (l : List ℕ) (n used : ℕ) (es : List definition.Event) → laid-of m e ≡ laid-events used es
+    → put-news l n here ended (shifted base e) ≡ store-events l n used (map (counted-from base) (definition.block-ends ended here ++ es))
+news-stored base e here ended m l n used es s =
+    event-stored (shifted base e) here ended m l n used (map (counted-from base) es) (shifted-laid base m e used es s)
+    ∙ ap (store-events l n used) (sym (counted-ends base ended here es))

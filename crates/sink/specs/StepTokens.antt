@@ -1,5 +1,5 @@
 -- What a step brings, as code holds it: its tokens in their order, the note on the candidate, and both stored.
-use Prim.Native.Nat.{_+_, ℕ}
+use Prim.Native.Nat.{_+_, _-_, ℕ}
 use mathlib.Core.List.{List, [], _++_, _∷_}
 use lib.ListN.{replicate}
 use Rattle.yaml_text.specs.declared.Mark.{Mark}
@@ -33,6 +33,16 @@ noted-words l Nothing = l
 noted-words l (Key n) = put-note l n 1
 noted-words l (Pair n) = put-note l n 2
 noted-words l (Block n) = put-note l n 3
+
+-- a note and an event, tokens counted from number n on
+abbrev pub note-from : ℕ → Note → Note
+note-from n Nothing = Nothing
+note-from n (Key k) = Key (k - n)
+note-from n (Pair k) = Pair (k - n)
+note-from n (Block k) = Block (k - n)
+
+abbrev pub shifted : ℕ → Event → Event
+shifted n e = record { closed = e .closed; note = note-from n (e .note); opening = e .opening; token = e .token }
 
 -- what a step found, from slot n on: so many blocks end here, then the note and the tokens of its lexeme
 abbrev pub put-news : List ℕ → ℕ → Mark → ℕ → Event → List ℕ

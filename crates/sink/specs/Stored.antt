@@ -1,6 +1,6 @@
 -- What is said in a row is counted, and stored behind what came before.
-use Prim.Native.Nat.{_*_, _+_, _≤_, suc, zero, ℕ}
-use mathlib.Core.List.{List, [], _++_, _∷_}
+use Prim.Native.Nat.{_*_, _+_, _-_, _≤_, suc, zero, ℕ}
+use mathlib.Core.List.{List, [], _++_, _∷_, map}
 use mathlib.Core.Path.{_∙_, _≡_, ap, refl, sym}
 use native.Mathlib.Omega.{arith}
 use lib.ListN.{length, length-append, length-map}
@@ -11,6 +11,7 @@ use Rattle.yaml_lexeme.specs.Token as tokens
 use Rattle.yaml_scan.specs.State as definition
 use Rattle.yaml_scan.specs.State.{block-ends, puts}
 use Rattle.yaml_scan.specs.SlotLaws.{total}
+use Rattle.yaml_stream.specs.Stream.{counted-from}
 use Rattle.reading.specs.Reading.{text-size}
 use Rattle.rooms.specs.Room.{sets-join}
 use Rattle.events.specs.declared.Counts.{Counts}
@@ -23,7 +24,8 @@ use Rattle.events.specs.Count.{countable, note-few, opening-few}
 use Rattle.events.specs.Event.{Countable, LaidEvent, counted-of, ends-of, event-size, event-texts, laid-events, laid-of, note-size, noted-of, opened-of, opening-size, put, put-before}
 use Rattle.events.specs.Laid.{puts-append, puts-ends, texts-append, texts-ends}
 use Rattle.events.specs.Weighed.{same-bytes, same-puts}
-use Rattle.sink.specs.EventsStored.{store-events, store-events-append, store-laid}
+use Rattle.sink.specs.EventsStored.{store-events, store-laid}
+use Rattle.sink.specs.CountedFrom.{counted-all, counted-append}
 
 -- nothing was said
 abbrev pub no-counts : Counts
@@ -43,9 +45,9 @@ pub record CountsBehind (n m : Counts) (es : List definition.Event) : Type 0 whe
   pub tokens : tokens-counted m ≡ tokens-counted n + total es
   pub used : m .used ≡ n .used + length (event-texts es)
 
--- these events, stored behind the counts n, make the words l' of l and the bytes b' of b
-pub record Stored (n m : Counts) (l b l' b' : List ℕ) (es : List definition.Event) : Type 0 where
-  pub words : l' ≡ store-events l (n .count) (n .used) es
+-- these events, stored behind the counts n, make the words l' of l and the bytes b' of b; slot 0 is that of token base
+pub record Stored (base : ℕ) (n m : Counts) (l b l' b' : List ℕ) (es : List definition.Event) : Type 0 where
+  pub words : l' ≡ store-events l (n .count - base) (n .used) (map (counted-from base) es)
   pub bytes : b' ≡ sets b (n .used) (event-texts es)
   pub counts : CountsBehind n m es
 
@@ -108,22 +110,27 @@ same-total m e used es h =
 
 -- in a row
 
-pub stored-none : (n : Counts) (l b : List ℕ) → Stored n n l b l b []
+pub stored-none : (base : ℕ) (n : Counts) (l b : List ℕ) → Stored base n n l b l b []
 unfolding store-laid laid-events event-texts puts total
-stored-none n l b = record { words = refl; bytes = refl; counts = record { count = omega arith; tokens = omega arith; used = omega arith } }
+stored-none base n l b = record { words = refl; bytes = refl; counts = record { count = omega arith; tokens = omega arith; used = omega arith } }
 
-pub stored-then : {n m k : Counts} {l b l' b' l″ b″ : List ℕ} {es fs : List definition.Event} → Stored n m l b l' b' es → Stored m k l' b' l″ b″ fs
-    → Stored n k l b l″ b″ (es ++ fs)
-stored-then {n} {l = l} {b = b} {es = es} {fs = fs} f g =
+pub stored-then : {base : ℕ} {n m k : Counts} {l b l' b' l″ b″ : List ℕ} {es fs : List definition.Event} → base ≤ n .count
+    → Stored base n m l b l' b' es → Stored base m k l' b' l″ b″ fs → Stored base n k l b l″ b″ (es ++ fs)
+stored-then {base} {n} {m} {l = l} {b = b} {es = es} {fs = fs} h f g =
     let c = puts-append es fs in
     let p = total-append es fs in
     let t = texts-append es fs in
     let u = ap length t ∙ length-append (event-texts es) (event-texts fs) in
+    let s : m .count - base ≡ n .count - base + puts es = omega (arith, f .counts, h) in
     record {
-      words = g .words ∙ rw (f .words, f .counts .count, f .counts .used) (sym (store-events-append es fs l (n .count) (n .used)));
+      words = g .words ∙ rw (f .words, s, f .counts .used) (sym (counted-append base es fs l (n .count - base) (n .used)));
       bytes = g .bytes ∙ rw (f .bytes, f .counts .used, t) (sets-join (event-texts es) (event-texts fs) b (n .used));
       counts = record { count = omega (arith, f .counts, g .counts); tokens = omega (arith, f .counts, g .counts); used = omega (arith, f .counts, g .counts) };
     }
+
+-- from token 0 on, the events themselves
+pub stored-words : {n m : Counts} {l b l' b' : List ℕ} {es : List definition.Event} → Stored 0 n m l b l' b' es → l' ≡ store-events l (n .count) (n .used) es
+stored-words {n} {es = es} f = let e : n .count - 0 ≡ n .count = omega arith in f .words ∙ rw (e, counted-all es)
 
 -- one token, behind so many ends of blocks at the mark here: the event e of the code stands for hs, its candidate at m
 module _ (n : Counts) (here m : Mark) (ended : ℕ) (e : Event) (hs : List definition.Event) (laid : laid-of m e ≡ laid-events (n .used) hs) where

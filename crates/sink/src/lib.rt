@@ -14,7 +14,7 @@ use yaml_lexeme::Kind;
 use yaml_lexeme::Token;
 use yaml_text::Mark;
 ghost use mathlib.Core.Path.{_≡_};
-ghost use Prim.Native.Nat.{_*_, _+_, _<_, _^_, _≤_};
+ghost use Prim.Native.Nat.{_*_, _+_, _-_, _<_, _^_, _≤_};
 ghost use lib.ListN.{length};
 ghost use Rattle.yaml_lexeme.specs.Record.{record-of, record-words};
 ghost use Rattle.events.specs.declared.Opening.the-variants as opening;
@@ -22,7 +22,7 @@ ghost use Rattle.events.specs.Event.{brief-event};
 ghost use Rattle.events.specs.Event.{opening-if};
 ghost use Rattle.events.specs.Event.{empty-of};
 ghost use Rattle.sink.specs.Store.{put-list, put-note, put-record};
-ghost use Rattle.sink.specs.StepTokens.{end-tokens, event-tokens, noted-words, opening-tokens, put-news};
+ghost use Rattle.sink.specs.StepTokens.{end-tokens, event-tokens, note-from, noted-words, opening-tokens, put-news, shifted};
 ghost use Rattle.sink.specs.Settle.{front, settled-words, total-records};
 
 // Stores the record of a token in slot n, if there is room for it.
@@ -63,25 +63,35 @@ fn put_ends(words: &mut [u32], n: usize, k: u32, m: Mark) -> usize
     end
 }
 
-// Notes on the record in slot n, if it is there, what goes in before it.
-fn put_note(words: &mut [u32], n: u32, number: u32)
-    requires { ⌜ number ≤ 3 ⌝ }
-    ensures { λ _. ⌜ now (words .exit) ≡ put-note (now (words .entry)) n number ⌝ }
+// The slot of token n, where slot 0 is that of token base.
+fn slot_of(base: u32, n: u32) -> u32
+    ensures { λ r. ⌜ r ≡ n - base ⌝ }
 {
-    let at = n as usize * RECORD_WORDS;
+    if n < base {
+        return 0;
+    }
+    n - base
+}
+
+// Notes on the record of token n, if its slot is there, what goes in before it.
+fn put_note(words: &mut [u32], base: u32, n: u32, number: u32)
+    requires { ⌜ number ≤ 3 ⌝ }
+    ensures { λ _. ⌜ now (words .exit) ≡ put-note (now (words .entry)) (n - base) number ⌝ }
+{
+    let at = slot_of(base, n) as usize * RECORD_WORDS;
     if at + RECORD_WORDS <= words.len() {
         set_note(words, at, number);
     }
 }
 
-fn note(words: &mut [u32], n: Note)
-    ensures { λ _. ⌜ now (words .exit) ≡ noted-words (now (words .entry)) n ⌝ }
+fn note(words: &mut [u32], base: u32, n: Note)
+    ensures { λ _. ⌜ now (words .exit) ≡ noted-words (now (words .entry)) (note-from base n) ⌝ }
 {
     match n {
         Note::Nothing => {}
-        Note::Key(k) => put_note(words, k, 1),
-        Note::Pair(k) => put_note(words, k, 2),
-        Note::Block(k) => put_note(words, k, 3),
+        Note::Key(k) => put_note(words, base, k, 1),
+        Note::Pair(k) => put_note(words, base, k, 2),
+        Note::Block(k) => put_note(words, base, k, 3),
     }
 }
 
@@ -123,13 +133,13 @@ fn put_event(words: &mut [u32], n: usize, e: Event)
     put_record(words, j, t);
 }
 
-// Stores what a step found from slot n on: so many blocks end here, then what its lexeme says.
-pub fn put_news(words: &mut [u32], n: u32, here: Mark, ended: u32, e: Event)
-    ensures { λ _. ⌜ now (words .exit) ≡ put-news (now (words .entry)) n here ended e ⌝ }
+// Stores what a step found from slot n on: so many blocks end here, then what its lexeme says. Slot 0 is that of token base.
+pub fn put_news(words: &mut [u32], base: u32, n: u32, here: Mark, ended: u32, e: Event)
+    ensures { λ _. ⌜ now (words .exit) ≡ put-news (now (words .entry)) n here ended (shifted base e) ⌝ }
 {
     let k = put_ends(words, n as usize, ended, here);
     let o = e.note;
-    note(words, o);
+    note(words, base, o);
     put_event(words, k, e)
 }
 

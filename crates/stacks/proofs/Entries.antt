@@ -8,7 +8,8 @@ use native.Mathlib.Omega.{arith}
 use lib.ListN.{getD, length, set}
 use lib.Seq.{getD-set-other, getD-set-same}
 use Rattle.stacks.specs.Stack.{entry-words}
-use Rattle.stacks.specs.Indent.{Below, EntriesStay, Low, entries-of, entry-of, word-of}
+use Rattle.stacks.specs.Most.{at-most-fits, at-most-stays}
+use Rattle.stacks.specs.Indent.{Below, EntriesStay, Low, entries-of, entry-of, most-at, word-of}
 use Rattle.stacks.specs.declared.indent.Indents.{Indents}
 
 pub entries-length : (a : List ℕ) (d : ℕ) → length (entries-of a d) ≡ d
@@ -26,13 +27,7 @@ pub entries-set : (a : List ℕ) (d k v : ℕ) → d ≤ k → entries-of (set a
 entries-set a d k v h = entries-same a (set a k v) d (λ j g. getD-set-other a k j v 0 (λ e. omega arith))
 
 pub entries-stay : (a e : List ℕ) → ((k : ℕ) → k < entry-words → getD e k 0 ≡ getD a k 0) → EntriesStay a e
-entries-stay a e s =
-    record {
-      word = s;
-      entries = λ n h. entries-same a e n (λ k g. s k (omega arith));
-      low = λ room b i h l.
-          record { deep = l .deep; indent = l .indent; words = λ k g. rw (s k (omega (arith, l .deep))) (l .words k g) };
-    }
+entries-stay a e s = record { word = s; entries = λ n h. entries-same a e n (λ k g. s k (omega arith)) }
 
 pub entries-stay-same : (a : List ℕ) → EntriesStay a a
 entries-stay-same a = entries-stay a a (λ k h. refl)
@@ -40,24 +35,25 @@ entries-stay-same a = entries-stay a a (λ k h. refl)
 pub entries-stay-then : {a b c : List ℕ} → EntriesStay a b → EntriesStay b c → EntriesStay a c
 entries-stay-then {a} {c = c} p q = entries-stay a c (λ k h. q .word k h ∙ p .word k h)
 
-entry-word : (i : ℕ) (ends : Bool) → entry-of (word-of i ends) ≡ record { old = i; ends = ends }
-entry-word i true =
+-- an indent that may stand there is read back
+entry-word : (d i : ℕ) (ends : Bool) → i ≤ most-at d → entry-of d (word-of i ends) ≡ record { old = i; ends = ends }
+entry-word d i true h =
     let e : (i * 2 + 1) / 2 ≡ i = omega arith in
     let f : (i * 2 + 1) % 2 ≡ 1 = omega arith in
-    rw (e, f)
-entry-word i false =
+    rw (e, f, at-most-stays (most-at d) i h)
+entry-word d i false h =
     let e : (i * 2 + 0) / 2 ≡ i = omega arith in
     let f : (i * 2 + 0) % 2 ≡ 0 = omega arith in
-    rw (e, f)
+    rw (e, f, at-most-stays (most-at d) i h)
 
-pub entries-push : (a : List ℕ) (d i : ℕ) (ends : Bool) → d < length a
+pub entries-push : (a : List ℕ) (d i : ℕ) (ends : Bool) → d < length a → i ≤ most-at d
     → entries-of (set a d (word-of i ends)) (d + 1) ≡ record { old = i; ends = ends } ∷ entries-of a d
 unfolding entries-of
-entries-push a d i ends h =
+entries-push a d i ends h g =
     let l : d ≤ d = omega arith in
-    rw (add-one d, getD-set-same a d (word-of i ends) 0 h, entries-set a d d (word-of i ends) l, entry-word i ends)
+    rw (add-one d, getD-set-same a d (word-of i ends) 0 h, entries-set a d d (word-of i ends) l, entry-word d i ends g)
 
-pub entries-pop : (a : List ℕ) (d : ℕ) → 0 < d → entries-of a d ≡ entry-of (getD a (d - 1) 0) ∷ entries-of a (d - 1)
+pub entries-pop : (a : List ℕ) (d : ℕ) → 0 < d → entries-of a d ≡ entry-of (d - 1) (getD a (d - 1) 0) ∷ entries-of a (d - 1)
 unfolding entries-of
 entries-pop a zero h = absurd (omega arith)
 entries-pop a (suc d) h = let e : suc d - 1 ≡ d = omega arith in rw e
@@ -66,24 +62,23 @@ pub entries-none : (a : List ℕ) (d : ℕ) → d ≤ 0 → entries-of a d ≡ [
 unfolding entries-of
 entries-none a d h = let e : d ≡ 0 = omega arith in rw e
 
-pub low-start : (room b : ℕ) (a : List ℕ) → Low room b a (record { indent = 0; depth = 0 })
-low-start room b a = record { deep = omega arith; indent = omega arith; words = λ k h. absurd (omega arith) }
+pub low-start : (room : ℕ) → Low room (record { indent = 0; depth = 0 })
+low-start room = record { deep = omega arith; indent = omega arith }
 
 -- one entry less
 abbrev pub popped : List ℕ → ℕ → Indents
-popped a d = record { indent = getD a (d - 1) 0 / 2; depth = d - 1 }
+popped a d = record { indent = entry-of (d - 1) (getD a (d - 1) 0) .old; depth = d - 1 }
 
-pub below-same : (a : List ℕ) (i : Indents) → Below a i i
-below-same a i = record { depth = omega arith; low = λ room b l. l }
+pub below-same : {i : Indents} → i .indent ≤ most-at (i .depth) → Below i i
+below-same h = record { depth = omega arith; indent = h }
 
-pub below-pop : {a : List ℕ} {i r : Indents} → Below a i r → 0 < r .depth → Below a i (popped a (r .depth))
-below-pop {r = r} w h = record {
-  depth = omega (arith, w .depth);
-  low = λ room b l.
-      let m = w .low room b l in
-      record {
-        deep = omega (arith, m .deep);
-        indent = m .words (r .depth - 1) (omega arith);
-        words = λ k g. m .words k (omega arith);
-      };
-}
+pub below-pop : (a : List ℕ) {i r : Indents} → Below i r → 0 < r .depth → Below i (popped a (r .depth))
+below-pop a {r = r} w h = record { depth = omega (arith, w .depth); indent = at-most-fits (most-at (r .depth - 1)) (getD a (r .depth - 1) 0 / 2) }
+
+-- where entries went the bounds stay
+pub low-below : {room : ℕ} {i r : Indents} → Low room i → Below i r → Low room r
+low-below l w = record { deep = omega (arith, l .deep, w .depth); indent = w .indent }
+
+-- in all the room that is lent
+pub low-most : {room : ℕ} {i : Indents} → room ≤ entry-words → Low room i → Low entry-words i
+low-most h l = record { deep = omega (arith, l .deep); indent = l .indent }

@@ -16,6 +16,7 @@ use Rattle.yaml_scan.specs.declared.Candidate.the-variants.{Absent, Possible}
 use Rattle.yaml_scan.specs.declared.Level.{Level}
 use Rattle.yaml_scan.specs.Keys.{is-required}
 use Rattle.stacks.specs.Bit.{bit, bit-low}
+use Rattle.stacks.specs.Most.{at-most-stays}
 use Rattle.stacks.specs.Stack.{entry-words, frame-at, stack-words}
 use Rattle.stacks.specs.Frame.{FramesStay, SetsKey, SetsLevel, frame-keys, frame-levels, key-at, key-of, key-words, level-bits, level-of, level-word, put-key, put-level, with-level}
 use Rattle.stacks.proofs.Entries.{entries-stay}
@@ -31,13 +32,13 @@ sets-five l n a b c d e =
     let s : n + 4 ≡ suc (suc (suc (suc n))) = omega arith in
     rw (p, q, r, s)
 
-getD-sets-other : (vs l : List ℕ) (n k : ℕ) → (n ≤ k → k < n + length vs → ⊥) → getD (sets l n vs) k 0 ≡ getD l k 0
+pub getD-sets-other : (vs l : List ℕ) (n k : ℕ) → (n ≤ k → k < n + length vs → ⊥) → getD (sets l n vs) k 0 ≡ getD l k 0
 getD-sets-other [] l n k h = refl
 getD-sets-other (v ∷ vs) l n k h =
     let o : k ≡ n → ⊥ = λ e. h (omega arith) (omega arith) in
     getD-sets-other vs (set l n v) (suc n) k (λ f g. h (omega arith) (omega arith)) ∙ getD-set-other l n k v 0 o
 
-getD-sets : (vs l : List ℕ) (n j : ℕ) → n + length vs ≤ length l → j < length vs → getD (sets l n vs) (n + j) 0 ≡ getD vs j 0
+pub getD-sets : (vs l : List ℕ) (n j : ℕ) → n + length vs ≤ length l → j < length vs → getD (sets l n vs) (n + j) 0 ≡ getD vs j 0
 getD-sets [] l n j h g = absurd (omega arith)
 getD-sets (v ∷ vs) l n zero h g =
     let e : n + 0 ≡ n = omega arith in
@@ -51,11 +52,11 @@ getD-sets (v ∷ vs) l n (suc j) h g =
 
 -- a level and its word
 
-bit-is : (b : Bool) → eqb (bit b) 1 ≡ b
+pub bit-is : (b : Bool) → eqb (bit b) 1 ≡ b
 bit-is true = refl
 bit-is false = refl
 
-digit : (a n : ℕ) → a ≤ 1 → (a + 2 * n) % 2 ≡ a
+pub digit : (a n : ℕ) → a ≤ 1 → (a + 2 * n) % 2 ≡ a
 digit a n h = omega arith
 
 module _ (a b c d : ℕ) (f : a ≤ 1) (g : b ≤ 1) (h : c ≤ 1) (i : d ≤ 1) where
@@ -88,14 +89,18 @@ level-back l =
     rw (digit-1 a b c d f g h i, digit-2 a b c d f g h i, digit-4 a b c d f g h i, digit-8 a b c d f g h i)
     (rw (bit-is (l .sequence), bit-is (l .colon), bit-is (l .question), bit-is (l .implicit)))
 
--- a candidate that was stored is read back
+-- a candidate that was stored is read back, if its column is one of a text
+
+abbrev pub ColumnFits : Candidate → Type 0
+ColumnFits Absent = Unit {0}
+ColumnFits (Possible required n m) = m .col ≤ 1_048_576
 
 module _ (l : List ℕ) (n : ℕ) (h : n + 5 ≤ length l) where
   key-absent : key-at (set l n 0) n ≡ Absent
   unfolding key-at
   key-absent = let o : n < length l = omega arith in rw (getD-set-same l n 0 0 o)
 
-  module _ (k c : ℕ) (m : Mark) where
+  module _ (k c : ℕ) (m : Mark) (low : m .col ≤ 1_048_576) where
     abbrev five : List ℕ
     five = k ∷ c ∷ m .index ∷ m .line ∷ m .col ∷ []
 
@@ -107,13 +112,13 @@ module _ (l : List ℕ) (n : ℕ) (h : n + 5 ≤ length l) where
 
     key-five : key-at (sets l n five) n ≡ pick (eqb k 0) Absent (Possible (eqb k 2) c m)
     unfolding key-at
-    key-five = rw (first-word, word 1 (omega arith), word 2 (omega arith), word 3 (omega arith), word 4 (omega arith))
+    key-five = rw (first-word, word 1 (omega arith), word 2 (omega arith), word 3 (omega arith), word 4 (omega arith), at-most-stays 1_048_576 (m .col) low)
 
-  key-back : (k : Candidate) → key-at (sets l n (key-words k)) n ≡ k
+  key-back : (k : Candidate) → ColumnFits k → key-at (sets l n (key-words k)) n ≡ k
   unfolding key-words
-  key-back Absent = key-absent
-  key-back (Possible true c m) = key-five 2 c m
-  key-back (Possible false c m) = key-five 1 c m
+  key-back Absent g = key-absent
+  key-back (Possible true c m) g = key-five 2 c m g
+  key-back (Possible false c m) g = key-five 1 c m g
 
 key-few : (k : Candidate) → length (key-words k) ≤ 5
 unfolding key-words
@@ -201,10 +206,10 @@ module _ (a : List ℕ) (d : ℕ) (k : Candidate) where
   below-apart : (n : ℕ) → n ≤ d → frame-keys with-key n ≡ frame-keys a n
   below-apart n h = keys-same a with-key n (λ m l. key-apart m (λ e. omega arith))
 
-  pub key-stored : {e : List ℕ} → d ≤ 255 → stack-words ≤ length a → e ≡ with-key → SetsKey a e d k
+  pub key-stored : {e : List ℕ} → d ≤ 255 → stack-words ≤ length a → ColumnFits k → e ≡ with-key → SetsKey a e d k
   unfolding frame-keys
-  key-stored h n q =
-      let b = key-back a (frame-at d) (omega arith) k in
+  key-stored h n g q =
+      let b = key-back a (frame-at d) (omega arith) k g in
       rw q (record {
         words = refl;
         key = b;
@@ -213,7 +218,7 @@ module _ (a : List ℕ) (d : ℕ) (k : Candidate) where
         keys = rw (b, below-apart d (omega arith));
         level = level-apart;
         levels = λ n. levels-same a with-key n (λ m l. level-apart m);
-        entries = entries-stay a with-key (λ n g. getD-sets-other (key-words k) a (frame-at d) n (λ f i. omega arith));
+        entries = entries-stay a with-key (λ n j. getD-sets-other (key-words k) a (frame-at d) n (λ f i. omega arith));
       })
 
 -- a level is stored

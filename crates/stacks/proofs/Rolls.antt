@@ -1,13 +1,13 @@
 -- Entries that come: the code stores one word, below the frames and above the entries that stay, where the definition's stack has one entry more.
-use Prim.Native.Nat.{_+_, _/_, _<_, _≤_, ℕ}
+use Prim.Native.Nat.{_+_, _<_, _≤_, ℕ}
 use mathlib.Core.Bool.{Bool, false, true}
 use mathlib.Core.List.{List, _∷_}
 use mathlib.Core.Path.{_∙_, _≡_, ap, refl, sym}
 use native.Mathlib.Omega.{arith}
-use lib.Dec.{eqb, ltb}
-use lib.ListN.{getD, length, set}
-use lib.Seq.{getD-set-other, getD-set-same}
-use borrow.Author.Tests.{eqb-false, eqb-true, le-ltb, lt-ltb}
+use lib.Dec.{ltb}
+use lib.ListN.{length, set}
+use lib.Seq.{getD-set-other}
+use borrow.Author.Tests.{le-ltb, lt-ltb}
 use Rattle.yaml_text.specs.declared.Mark.{Mark}
 use Rattle.yaml_text.specs.declared.Refusal.{Refusal}
 use Rattle.yaml_text.specs.Refusal.{Read, _>>=_, got, refused}
@@ -15,26 +15,15 @@ use Rattle.yaml_text.specs.Test.{by-test, true-false}
 use Rattle.yaml_scan.specs.Indent.{drop-for, indents-of, roll, stack}
 use Rattle.yaml_scan.specs.Indent as definition
 use Rattle.stacks.specs.Stack.{entry-words, stack-words}
-use Rattle.stacks.specs.Indent.{Lowers, entries-of, indents-seen, word-of}
+use Rattle.stacks.specs.Indent.{Low, Lowers, entries-of, indents-seen, most-at, word-of}
 use Rattle.stacks.specs.Roll.{Rolls, Stacks, full-at, one-more, rolled-words, stored}
 use Rattle.stacks.specs.declared.indent.Indents.{Indents}
 use Rattle.stacks.specs.declared.indent.Stacked.the-variants as stacked-as
 use Rattle.stacks.specs.declared.indent.Rolled.the-variants as rolled-as
-use Rattle.stacks.proofs.Entries.{entries-length, entries-push, entries-set}
+use Rattle.stacks.proofs.Entries.{entries-length, entries-push, entries-set, low-below}
 use Rattle.stacks.proofs.Frames.{frames-stay, frames-stay-same}
 
 -- stack
-
-word-low : {n : ℕ} (ends : Bool) {i : ℕ} → i ≤ n → word-of i ends / 2 ≤ n
-word-low true h = omega arith
-word-low false h = omega arith
-
-words-push : (a : List ℕ) (d b i : ℕ) (ends : Bool) → d < length a → ((k : ℕ) → k < d → getD a k 0 / 2 ≤ b + k) → i ≤ b + d
-    → (k : ℕ) → k < d + 1 → getD (set a d (word-of i ends)) k 0 / 2 ≤ b + k
-words-push a d b i ends h l g k f =
-    by-test (eqb k d)
-    (λ q. let e = eqb-true k d q in rw (e, getD-set-same a d (word-of i ends) 0 h) (word-low ends g))
-    (λ q. let n = eqb-false k d q in rw (getD-set-other a d k (word-of i ends) 0 n) (l k (omega arith)))
 
 stack-fits : (room : ℕ) (m : Mark) (i : ℕ) (ends : Bool) (s : definition.Indents) → ltb (length (s .entries)) room ≡ true
     → stack room m i ends s ≡ got (indents-of i (record { old = s .indent; ends = ends } ∷ s .entries))
@@ -55,26 +44,22 @@ module _ (a : List ℕ) (room : ℕ) (m : Mark) (indent : ℕ) (ends : Bool) (i 
         words = rw t;
         below = λ n g. refl;
         frames = frames-stay-same a;
-        low = λ b l g. tt;
+        low = tt;
       }
 
-  pub stack-got : room ≤ entry-words → stack-words ≤ length a → i .depth < room
+  pub stack-got : room ≤ entry-words → stack-words ≤ length a → i .depth < room → i .indent ≤ most-at (i .depth) → indent ≤ most-at (i .depth + 1)
       → Stacks a (set a (i .depth) (word-of (i .indent) ends)) room m indent ends i (stacked-as.Got (one-more indent i))
-  stack-got g w h =
+  stack-got g w h l n =
       let e = entries-length a (i .depth) in
       let t : ltb (length (entries-of a (i .depth))) room ≡ true = rw e (lt-ltb (i .depth) room h) in
       let k : i .depth < length a = omega arith in
       let v = word-of (i .indent) ends in
       record {
-        same = rw (entries-push a (i .depth) (i .indent) ends k) (sym (stack-fits room m indent ends (indents-seen a i) t));
+        same = rw (entries-push a (i .depth) (i .indent) ends k l) (sym (stack-fits room m indent ends (indents-seen a i) t));
         words = rw (t, e);
-        below = λ n l. entries-set a n (i .depth) v l;
-        frames = frames-stay a (set a (i .depth) v) (λ j l. getD-set-other a (i .depth) j v 0 (λ q. omega arith));
-        low = λ b l n. record {
-          deep = omega arith;
-          indent = omega arith;
-          words = words-push a (i .depth) b (i .indent) ends k (l .words) (l .indent);
-        };
+        below = λ n q. entries-set a n (i .depth) v q;
+        frames = frames-stay a (set a (i .depth) v) (λ j m. getD-set-other a (i .depth) j v 0 (λ q. omega arith));
+        low = record { deep = omega arith; indent = n };
       }
 
 -- roll
@@ -89,14 +74,14 @@ module _ (room : ℕ) (m : Mark) (edge : ℕ) (s d : definition.Indents) (e : dr
   roll-stays h = rw (e, h, roll, e)
 
 module _ {a : List ℕ} {edge : ℕ} {i d : Indents} (room : ℕ) (m : Mark) (w : Lowers a i d (drop-for edge (i .indent) (entries-of a (i .depth)))) where
-  pub rolled-stays : edge ≤ d .indent → Rolls a a room m edge i (rolled-as.Got false d)
-  rolled-stays h =
+  pub rolled-stays : Low room i → edge ≤ d .indent → Rolls a a room m edge i (rolled-as.Got false d)
+  rolled-stays l h =
       let t = le-ltb (d .indent) edge h in
       record {
         same = sym (roll-stays room m edge (indents-seen a i) (indents-seen a d) (sym (w .same)) t);
         words = rw (← w .same, t);
         frames = frames-stay-same a;
-        low = λ b l g. w .below .low room b l;
+        low = low-below l (w .below);
       }
 
   module _ (h : d .indent < edge) where
@@ -109,7 +94,7 @@ module _ {a : List ℕ} {edge : ℕ} {i d : Indents} (room : ℕ) (m : Mark) (w 
 
     pub rolled-full : {e : List ℕ} {f : Refusal} → Stacks a e room m edge true d (stacked-as.Refused f) → Rolls a e room m edge i (rolled-as.Refused f)
     unfolding _>>=_
-    rolled-full s = record { same = on (s .same); words = words (s .words); frames = s .frames; low = λ b l g. tt }
+    rolled-full s = record { same = on (s .same); words = words (s .words); frames = s .frames; low = tt }
 
     pub rolled-starts : {e : List ℕ} {k : Indents} → Stacks a e room m edge true d (stacked-as.Got k) → Rolls a e room m edge i (rolled-as.Got true k)
     unfolding _>>=_
@@ -117,7 +102,7 @@ module _ {a : List ℕ} {edge : ℕ} {i d : Indents} (room : ℕ) (m : Mark) (w 
       same = on (s .same);
       words = words (s .words);
       frames = s .frames;
-      low = λ b l g. s .low b (w .below .low room b l) (omega arith);
+      low = s .low;
     }
 
 -- a refusal leaves the words as they are

@@ -10,14 +10,16 @@ use Rattle.yaml_scan.specs.declared.Candidate.{Candidate}
 use Rattle.yaml_scan.specs.declared.Candidate.the-variants.{Absent, Possible}
 use Rattle.yaml_scan.specs.declared.Level.{Level}
 use Rattle.stacks.specs.Bit.{bit}
+use Rattle.stacks.specs.Most.{at-most}
 use Rattle.stacks.specs.Stack.{frame-at}
 use Rattle.stacks.specs.Indent.{EntriesStay}
 
--- the candidate whose words begin at n; its first is 0: absent, 1: possible, 2: possible and required
+-- the candidate whose words begin at n; its first is 0: absent, 1: possible, 2: possible and required; a column
+-- that no text has counts as the last
 unfoldable pub key-at : List ℕ → ℕ → Candidate
 key-at a n =
     pick (eqb (getD a n 0) 0) Absent
-    (Possible (eqb (getD a n 0) 2) (getD a (n + 1) 0) (record { index = getD a (n + 2) 0; line = getD a (n + 3) 0; col = getD a (n + 4) 0 }))
+    (Possible (eqb (getD a n 0) 2) (getD a (n + 1) 0) (record { index = getD a (n + 2) 0; line = getD a (n + 3) 0; col = at-most 1_048_576 (getD a (n + 4) 0) }))
 
 -- the words that are stored for it
 unfoldable pub key-words : Candidate → List ℕ

@@ -47,13 +47,13 @@ rolled-words room edge a s =
     let d = drop-for edge (s .indent) (s .entries) in
     pick (ltb (d .indent) edge) (stored room true a d) a
 
-abbrev pub LowStacked : ℕ → ℕ → List ℕ → stacked.Stacked → Type 0
-LowStacked room b a (stacked-as.Got i) = Low room b a i
-LowStacked room b a (stacked-as.Refused f) = Unit {0}
+abbrev pub LowStacked : ℕ → stacked.Stacked → Type 0
+LowStacked room (stacked-as.Got i) = Low room i
+LowStacked room (stacked-as.Refused f) = Unit {0}
 
-abbrev pub LowRolled : ℕ → ℕ → List ℕ → rolled.Rolled → Type 0
-LowRolled room b a (rolled-as.Got starts i) = Low room b a i
-LowRolled room b a (rolled-as.Refused f) = Unit {0}
+abbrev pub LowRolled : ℕ → rolled.Rolled → Type 0
+LowRolled room (rolled-as.Got starts i) = Low room i
+LowRolled room (rolled-as.Refused f) = Unit {0}
 
 -- `stack`, from the words a to e; a refusal is at m
 pub record Stacks (a e : List ℕ) (room : ℕ) (m : Mark) (indent : ℕ) (ends : Bool) (i : Indents) (r : stacked.Stacked) : Type 0 where
@@ -61,11 +61,11 @@ pub record Stacks (a e : List ℕ) (room : ℕ) (m : Mark) (indent : ℕ) (ends 
   pub words : e ≡ stored room ends a (indents-seen a i)
   pub below : (n : ℕ) → n ≤ i .depth → entries-of e n ≡ entries-of a n
   pub frames : FramesStay a e
-  pub low : (b : ℕ) → Low room b a i → indent ≤ b + i .depth + 1 → LowStacked room b e r
+  pub low : LowStacked room r
 
 -- `roll`, from the words a to e; a refusal is at m
 pub record Rolls (a e : List ℕ) (room : ℕ) (m : Mark) (edge : ℕ) (i : Indents) (r : rolled.Rolled) : Type 0 where
   pub same : rolled-seen e r ≡ roll room m edge (indents-seen a i)
   pub words : e ≡ rolled-words room edge a (indents-seen a i)
   pub frames : FramesStay a e
-  pub low : (b : ℕ) → Low room b a i → edge ≤ b → LowRolled room b e r
+  pub low : LowRolled room r

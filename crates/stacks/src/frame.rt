@@ -8,6 +8,7 @@ ghost use Rattle.stacks.specs.Stack.{stack-words};
 ghost use Rattle.stacks.specs.Frame.{SetsKey, SetsLevel, key-of, level-of, level-word};
 use crate::ENTRIES;
 use crate::FRAME_WORDS;
+use crate::at_most;
 use yaml_scan::Candidate;
 use yaml_scan::Level;
 use yaml_text::Mark;
@@ -29,10 +30,11 @@ pub fn key(stacks: &[u32], level: usize) -> Candidate
     if k == 0 {
         return Candidate::Absent;
     }
+    let col = at_most(1_048_576, stacks[at + 4]);
     let m = Mark {
         index: stacks[at + 2],
         line: stacks[at + 3],
-        col: stacks[at + 4],
+        col: col,
     };
     Candidate::Possible {
         required: k == 2,
@@ -59,7 +61,7 @@ pub fn clear_key(stacks: &mut [u32], level: usize)
 
 // Saves the candidate of a level.
 pub fn set_key(stacks: &mut [u32], level: usize, required: bool, number: u32, m: Mark)
-    requires { ⌜ (level ≤ 255) × (stack-words ≤ length (now stacks)) ⌝ }
+    requires { ⌜ (level ≤ 255) × (stack-words ≤ length (now stacks)) × (m .col ≤ 1_048_576) ⌝ }
     ensures { λ r. ⌜ SetsKey (now (stacks .entry)) (now (stacks .exit)) level (candidate.Possible required number m) ⌝ }
 {
     let at = ENTRIES + level * FRAME_WORDS;

@@ -21,8 +21,8 @@ use Rattle.stacks.specs.Indent.{entries-of}
 use Rattle.stacks.proofs.Entries.{entries-stay-same}
 use Rattle.states.specs.declared.Lapsed.the-variants as lapsed
 use Rattle.states.specs.declared.State.{State}
-use Rattle.states.specs.State.{key-mark, required-of, state-of}
-use Rattle.states.specs.Seen.{in-flow-seen, low-key}
+use Rattle.states.specs.State.{required-of, state-of}
+use Rattle.states.specs.Seen.{in-flow-seen}
 use Rattle.states.specs.Key.{Lapses, Removes, Saves, lapsed-seen, lapsed-words, lapses-at, removed-words, saved-words}
 
 -- a candidate's age
@@ -70,31 +70,24 @@ key-seen s w h text count = rw (w .keys, w .levels (s .«flow_level»), w .entri
 module _ (a : List ℕ) (count : ℕ) (s : State) where
   pub saves-allowed : {e : List ℕ} {b : Bool} → s .indents .depth ≤ entry-words → s .«simple_key_allowed» ≡ true → b ≡ required-of a s
       → SetsKey a e (s .«flow_level») (Possible b count (s .place .mark)) → Saves a e count s
-  unfolding saved-words save-key required-of frame-keys key-mark
+  unfolding saved-words save-key required-of frame-keys
   saves-allowed h t f w =
       record {
         words = w .words ∙ rw (t, f);
         same = λ text. key-seen s w h text count ∙ rw (in-flow-seen text a count s, f, t);
         entries = w .entries;
-        low = low-key w;
       }
 
   pub saves-not : s .«simple_key_allowed» ≡ false → Saves a a count s
   unfolding saved-words save-key
-  saves-not t = record { words = rw t; same = λ text. rw t; entries = entries-stay-same a; low = λ h l. h }
+  saves-not t = record { words = rw t; same = λ text. rw t; entries = entries-stay-same a }
 
 -- it goes
 
 module _ (a : List ℕ) (s : State) where
   pub removes : {e : List ℕ} → s .indents .depth ≤ entry-words → SetsKey a e (s .«flow_level») Absent → Removes a e s
-  unfolding removed-words remove-key frame-keys key-mark
-  removes h w =
-      record {
-        words = w .words;
-        same = λ text count. key-seen s w h text count;
-        sets = w;
-        low = λ l. low-key w l (omega arith);
-      }
+  unfolding removed-words remove-key frame-keys
+  removes h w = record { words = w .words; same = λ text count. key-seen s w h text count; sets = w }
 
   pub lapses-flow : 0 < s .«flow_level» → Lapses a a s lapsed.Passed
   unfolding lapsed-words lapsed-seen lapse-key
@@ -104,7 +97,6 @@ module _ (a : List ℕ) (s : State) where
         words = rw t;
         same = λ text count. rw (in-flow-seen text a count s, t, lapse-key);
         entries = entries-stay-same a;
-        low = λ l. l;
       }
 
   module _ (h : s .«flow_level» ≤ 0) where
@@ -121,7 +113,6 @@ module _ (a : List ℕ) (s : State) where
           words = rw (le-ltb 0 (s .«flow_level») h, t);
           same = λ text count. sym (outside text count ∙ rw f);
           entries = entries-stay-same a;
-          low = λ l. l;
         }
 
     pub lapses-none : key-of a (s .«flow_level») ≡ Absent → Lapses a a s lapsed.Passed
@@ -141,7 +132,6 @@ module _ (a : List ℕ) (s : State) where
               words = rw (le-ltb 0 (s .«flow_level») h, f, t, q);
               same = λ text count. sym (outside text count ∙ rw (f, lapse, t, q));
               entries = entries-stay-same a;
-              low = λ l. l;
             }
 
         pub lapses-stale : {e : List ℕ} → required ≡ false → Removes a e s → Lapses a e s lapsed.Passed
@@ -151,5 +141,4 @@ module _ (a : List ℕ) (s : State) where
               words = w .words ∙ rw (le-ltb 0 (s .«flow_level») h, f, t, q);
               same = λ text count. sym (outside text count ∙ rw (f, lapse, t, q) (sym (ap got (w .same text count))));
               entries = w .sets .entries;
-              low = w .low;
             }

@@ -27,15 +27,15 @@ use Rattle.states.specs.Fetch.{Fetches, FetchesQuiet, FetchesText, Ready
 
 -- what a step keeps makes its state ready, and the other way round
 
-pub ready : {limits : Limits} {text stacks : List ℕ} {s : State} → Lent limits stacks → Sane limits text stacks s → Ready limits text stacks s
-ready l h = record { stands = h .stands; low = h .low; deep = h .deep; keys = h .keys; lent = l }
+pub ready : {limits : Limits} {text stacks : List ℕ} {s : State} → Lent limits stacks → Sane limits text s → Ready limits text stacks s
+ready l h = record { stands = h .stands; low = h .low; deep = h .deep; lent = l }
 
 pub lent-kept : {limits : Limits} {a e : List ℕ} → length e ≡ length a → Lent limits a → Lent limits e
 lent-kept q l = record { room = omega (arith, l .room); entries-most = l .entries-most; levels-most = l .levels-most }
 
 module _ {limits : Limits} {text stacks : List ℕ} {s : State} (y : Ready limits text stacks s) where
-  pub ready-sane : Sane limits text stacks s
-  ready-sane = record { stands = y .stands; low = y .low; deep = y .deep; keys = y .keys }
+  pub ready-sane : Sane limits text s
+  ready-sane = record { stands = y .stands; low = y .low; deep = y .deep }
 
   pub ready-small : length text < 2 ^ 63 → Small (s .place)
   ready-small = small (y .stands)
@@ -47,8 +47,8 @@ module _ {limits : Limits} {text stacks : List ℕ} {s : State} (y : Ready limit
   pub ready-key : (s .«flow_level» ≤ 255) × (s .indents .depth ≤ entry-words) × (stack-words ≤ length stacks)
   ready-key = (omega (arith, y .deep, y .lent .levels-most), omega (arith, y .low .deep, y .lent .entries-most), y .lent .room)
 
-  pub ready-saves : (s .«flow_level» ≤ 255) × (s .indents .depth ≤ entry-words) × (stack-words ≤ length stacks) × (s .place .mark .col < 2 ^ 31)
-  ready-saves = (ready-key .0, ready-key .1, ready-key .2, omega (arith, ready-col))
+  pub ready-saves : (s .«flow_level» ≤ 255) × (s .indents .depth ≤ entry-words) × (stack-words ≤ length stacks) × (s .place .mark .col ≤ 1_048_576)
+  ready-saves = (ready-key .0, ready-key .1, ready-key .2, ready-col)
 
 -- from the lent words a to e, which are to be w
 module _ {limits : Limits} {text a e w : List ℕ} {n : Counts} {s : State} {d : Read News} where
@@ -58,13 +58,13 @@ module _ {limits : Limits} {text a e w : List ℕ} {n : Counts} {s : State} {d :
 
   module _ {v : Event} (hs : List definition.Event) (laid : laid-of (key-mark (key-of a (s .«flow_level»))) v ≡ laid-events (n .used) hs) where
     -- on with the state t, as the definition with x
-    pub fetch-goes : {t : State} (x : definition.State) → d ≡ emit hs x → state-of text e (n .count) t ≡ x → Went limits text e s t v → e ≡ w
+    pub fetch-goes : {t : State} (x : definition.State) → d ≡ emit hs x → state-of text e (n .count) t ≡ x → Went limits text s t v → e ≡ w
         → Fetches limits text a e w n s d (Goes v t)
     unfolding fetched-seen laid-news
     fetch-goes x i same h q =
         record { same = rw (i, laid, ← same, same-puts (key-mark (key-of a (s .«flow_level»))) v (n .used) hs laid); after = h; words = q }
 
-    pub fetch-quiet : {t : State} (x : definition.State) → d ≡ emit hs x → state-of text e (n .count) t ≡ x → Went limits text e s t v → text-size (v .token .kind) ≡ 0 → e ≡ w
+    pub fetch-quiet : {t : State} (x : definition.State) → d ≡ emit hs x → state-of text e (n .count) t ≡ x → Went limits text s t v → text-size (v .token .kind) ≡ 0 → e ≡ w
         → FetchesQuiet limits text a e w n s d (Goes v t)
     unfolding news-texts
     fetch-quiet x i same h z q =

@@ -20,14 +20,13 @@ use Rattle.events.specs.Event.{LaidNews, ends-with, event-size, goes-on, laid-n
 use Rattle.states.specs.declared.State.{State}
 use Rattle.states.specs.declared.Fetched.{Fetched}
 use Rattle.states.specs.declared.Fetched.the-variants.{Ends, Goes, Refused}
-use Rattle.states.specs.State.{KeysLow, Lent, Sane, key-mark, state-of}
+use Rattle.states.specs.State.{Lent, Sane, key-mark, state-of}
 
--- what a fetcher asks for: a state that stands in the text, its stacks lent and within their limits
+-- what a fetcher asks for: a state that stands in the text, within the limits of its stacks, which are lent
 pub record Ready (limits : Limits) (text stacks : List ℕ) (s : State) : Type 0 where
   pub stands : Stands text (s .place)
-  pub low : Low (limits .entries) 1_048_577 stacks (s .indents)
+  pub low : Low (limits .entries) (s .indents)
   pub deep : s .«flow_level» ≤ limits .levels
-  pub keys : KeysLow stacks
   pub lent : Lent limits stacks
 
 -- a character of one byte stands at a place
@@ -36,16 +35,16 @@ pub record OneByte (text : List ℕ) (p : Place) : Type 0 where
   pub ascii : getD text (p .at) 0 < 128
 
 -- the state t behind an event that was fetched from s: at least a byte on, with at most three bytes of text a byte
-pub record Went (limits : Limits) (text stacks : List ℕ) (s t : State) (v : Event) : Type 0 where
-  pub sane : Sane limits text stacks t
+pub record Went (limits : Limits) (text : List ℕ) (s t : State) (v : Event) : Type 0 where
+  pub sane : Sane limits text t
   pub onward : s .place .at + 1 ≤ t .place .at
   pub size : 3 * s .place .at + text-size (v .token .kind) ≤ 3 * t .place .at
   pub closed : v .closed ≤ 255
 
-abbrev pub After : Limits → List ℕ → List ℕ → State → Fetched → Type 0
-After limits text stacks s (Goes v t) = Went limits text stacks s t v
-After limits text stacks s (Ends v) = (v .closed ≤ 255) × (text-size (v .token .kind) ≡ 0)
-After limits text stacks s (Refused f) = Unit {0}
+abbrev pub After : Limits → List ℕ → State → Fetched → Type 0
+After limits text s (Goes v t) = Went limits text s t v
+After limits text s (Ends v) = (v .closed ≤ 255) × (text-size (v .token .kind) ≡ 0)
+After limits text s (Refused f) = Unit {0}
 
 -- what the definition sees of an answer, from a state of so many tokens with the candidate at m
 unfoldable pub fetched-seen : List ℕ → List ℕ → ℕ → Mark → Fetched → Read LaidNews
@@ -62,7 +61,7 @@ words-left a w (Refused f) = a
 -- what a fetcher answers, against the definition's d: from the lent words a to e, which are w unless it refuses
 pub record Fetches (limits : Limits) (text a e w : List ℕ) (n : Counts) (s : State) (d : Read News) (r : Fetched) : Type 0 where
   pub same : fetched-seen text e (n .count) (key-mark (key-of a (s .«flow_level»))) r ≡ laid-news (n .used) d
-  pub after : After limits text e s r
+  pub after : After limits text s r
   pub words : e ≡ words-left a w r
 
 -- one that is lent no bytes: what is said has no text

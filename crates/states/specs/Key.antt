@@ -1,5 +1,5 @@
 -- K2 on the frames: what the code's rules of the candidate make of the lent words, and what the definition sees of it.
-use Prim.Native.Nat.{_≤_, ℕ}
+use Prim.Native.Nat.{ℕ}
 use mathlib.Core.Bool.{Bool, _&&_, false, not}
 use mathlib.Core.List.{List}
 use mathlib.Core.Path.{_≡_}
@@ -17,7 +17,7 @@ use Rattle.stacks.specs.Indent.{EntriesStay}
 use Rattle.states.specs.declared.Lapsed.{Lapsed}
 use Rattle.states.specs.declared.Lapsed.the-variants as lapsed
 use Rattle.states.specs.declared.State.{State}
-use Rattle.states.specs.State.{KeysLow, required-of, state-of}
+use Rattle.states.specs.State.{required-of, state-of}
 
 -- the words after a candidate was saved, as the token of that number
 unfoldable pub saved-words : List ℕ → ℕ → State → List ℕ
@@ -42,14 +42,12 @@ pub record Saves (a e : List ℕ) (count : ℕ) (s : State) : Type 0 where
   pub words : e ≡ saved-words a count s
   pub same : (text : List ℕ) → state-of text e count s ≡ save-key (state-of text a count s)
   pub entries : EntriesStay a e
-  pub low : KeysLow a → s .place .mark .col ≤ 1_048_576 → KeysLow e
 
 -- the candidate is taken away, from the words a to e
 pub record Removes (a e : List ℕ) (s : State) : Type 0 where
   pub words : e ≡ removed-words a s
   pub same : (text : List ℕ) (count : ℕ) → state-of text e count s ≡ remove-key (state-of text a count s)
   pub sets : SetsKey a e (s .«flow_level») Absent
-  pub low : KeysLow a → KeysLow e
 
 -- what the definition sees of the check
 unfoldable pub lapsed-seen : List ℕ → List ℕ → ℕ → State → Lapsed → Read definition.State
@@ -61,4 +59,3 @@ pub record Lapses (a e : List ℕ) (s : State) (r : Lapsed) : Type 0 where
   pub words : e ≡ lapsed-words a s
   pub same : (text : List ℕ) (count : ℕ) → lapsed-seen text e count s r ≡ lapse-key (state-of text a count s)
   pub entries : EntriesStay a e
-  pub low : KeysLow a → KeysLow e

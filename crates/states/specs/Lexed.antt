@@ -27,14 +27,13 @@ use Rattle.reading.specs.declared.Reading.the-variants.{Got, Refused}
 use Rattle.reading.specs.Reading.{Ahead, Lexes, Seen, bytes-after, laid-read, seen}
 use Rattle.stacks.specs.declared.indent.Indents.{Indents}
 use Rattle.stacks.specs.Frame.{frame-keys, frame-levels}
-use Rattle.stacks.specs.Indent.{Below, Low, indents-seen}
+use Rattle.stacks.specs.Indent.{Low, indents-seen}
 use Rattle.events.specs.declared.Counts.{Counts}
 use Rattle.events.specs.Event.{closing-of, event-texts, laid-events, laid-of}
 use Rattle.events.specs.Laid.{laid-ends, laid-of-closing, texts-ends}
 use Rattle.states.specs.declared.Fetched.the-variants as fetched
 use Rattle.states.specs.declared.State.{State}
-use Rattle.states.specs.State.{KeysLow, behind-of}
-use Rattle.states.specs.Key.{Saves}
+use Rattle.states.specs.State.{behind-of}
 use Rattle.states.specs.Rest.{behind-fits, behind-stands, behind-view, is-rest, rest-at}
 use Rattle.states.specs.Fetch.{FetchesText, Ready}
 use Rattle.states.specs.Answer.{bytes-refused, bytes-said, fetch-goes, fetch-refused}
@@ -120,20 +119,10 @@ state-to stacks count s w p =
       count = count;
     }
 
--- the stacks stay within their bounds, from the words a to e
-pub record Keeps (a e : List ℕ) (s : State) (w : Way) : Type 0 where
-  pub low : (room b : ℕ) → room ≤ 255 → Low room b a (s .indents) → Low room b e (w .indents)
-  pub keys : KeysLow a → s .place .mark .col ≤ 1_048_576 → KeysLow e
+-- the indents stay within their bounds, of so many entries
+pub record Keeps (room : ℕ) (s : State) (w : Way) : Type 0 where
+  pub low : Low room (w .indents)
   pub few : w .ended ≤ s .indents .depth
-
--- on behind a token that ends no block, the candidate being saved
-abbrev pub on : Indents → Bool → Bool → (Mark → ℕ) → Way
-on i leads allowed adjacent = record { indents = i; leading-whitespace = leads; simple-key-allowed = allowed; adjacent-value-allowed-at = adjacent; ended = 0 }
-
-pub saved-keeps : {a e : List ℕ} {count : ℕ} {s : State} (i : Indents) (leads allowed : Bool) (adjacent : Mark → ℕ) → Below a (s .indents) i → Saves a e count s
-    → Keeps a e s (on i leads allowed adjacent)
-saved-keeps i leads allowed adjacent b w =
-    record { low = λ room k h l. w .entries .low room k i h (b .low room k l); keys = w .low; few = omega arith }
 
 -- the reader's answer and the definition's are alike
 module _ {rest before after : List ℕ} {used : ℕ} where
@@ -167,7 +156,7 @@ module _ {limits : Limits} {text rest a e u lent : List ℕ} (before : List ℕ)
       }
   lexed-refused (got x) k h tells q = let z : _≡_ {A = ℕ} 0 1 = cc (h .same) in absurd (omega arith)
 
-  pub lexed-got : {l : Lexeme} (w : Way) (x : Read tokens.Lexeme) → Ready limits text a s → rest ≡ drop (s .place .at) text → Keeps a e s w
+  pub lexed-got : {l : Lexeme} (w : Way) (x : Read tokens.Lexeme) → Ready limits text a s → rest ≡ drop (s .place .at) text → Keeps (limits .entries) s w
       → Lexes rest (part from before) lent (n .used) (Got l) x
       → d ≡ (x >>= λ (l : tokens.Lexeme). emit (closed-events (w .ended) (l .token)) (state-to e (n .count) s w (l .place))) → e ≡ u
       → FetchesText limits text a e u before (cleared before (n .used)) (back from before lent) n s d
@@ -183,9 +172,8 @@ module _ {limits : Limits} {text rest a e u lent : List ℕ} (before : List ℕ)
             (record {
               sane = record {
                 stands = behind-stands text (s .place) r (y .stands) (h .ahead .stands);
-                low = k .low _ _ (y .lent .entries-most) (y .low);
+                low = k .low;
                 deep = y .deep;
-                keys = k .keys (y .keys) (omega (arith, y .stands));
               };
               onward = omega (arith, h .ahead);
               size = let z = rw (same .0) at (h .ahead .size) in omega arith;

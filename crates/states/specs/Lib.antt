@@ -3,6 +3,7 @@ pub mod Rest
 pub mod Seen
 pub mod Key
 pub mod Fetch
+pub mod Refused
 pub mod Answer
 pub mod Brief
 pub mod Lexed

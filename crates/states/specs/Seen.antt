@@ -1,22 +1,23 @@
 -- What the definition sees of a state.
-use Prim.Native.Nat.{_≤_, suc, zero, ℕ}
+use Prim.Native.Nat.{_+_, _≤_, suc, zero, ℕ}
 use mathlib.Core.Bool.{Bool, false, not, true}
 use mathlib.Core.List.{List, [], _∷_}
 use mathlib.Core.Path.{_≡_, refl, sym}
 use native.Mathlib.Omega.{arith}
 use lib.Dec.{eqb, ltb}
-use borrow.Author.Tests.{eqb-false, eqb-true, lt-ltb, ltb-false, ltb-true, ne-eqb}
+use lib.ListN.{getD}
+use borrow.Author.Tests.{lt-ltb, ltb-false, ltb-true, ne-eqb}
 use Rattle.yaml_text.specs.Test.{by-test}
-use Rattle.yaml_scan.specs.declared.Candidate.{Candidate}
 use Rattle.yaml_scan.specs.declared.Level.{Level}
 use Rattle.yaml_scan.specs.Keys.{top-key}
 use Rattle.yaml_scan.specs.State.{in-flow, with-indents}
 use Rattle.stacks.specs.declared.indent.Indents.{Indents}
-use Rattle.stacks.specs.Stack.{entry-words}
+use Rattle.stacks.specs.Stack.{entry-words, frame-at}
 use Rattle.stacks.specs.Indent.{EntriesStay, indents-seen}
-use Rattle.stacks.specs.Frame.{FramesStay, SetsKey, SetsLevel, frame-keys, frame-levels, key-of}
+use Rattle.stacks.specs.Frame.{FramesStay, frame-keys, frame-levels, key-at, key-of}
+use Rattle.stacks.specs.Most.{at-most-fits}
 use Rattle.states.specs.declared.State.{State}
-use Rattle.states.specs.State.{KeysLow, key-mark, state-of}
+use Rattle.states.specs.State.{key-mark, state-of}
 
 some-level : List Level → Bool
 some-level ls = elim ls [ [] ↦ false | l ∷ ls ↦ true ]
@@ -42,19 +43,13 @@ pub top-seen : (stacks : List ℕ) (d : ℕ) → top-key (frame-keys stacks (suc
 unfolding top-key frame-keys
 top-seen stacks d = refl
 
--- what is stored in the words keeps the columns low
-
-pub low-key : {a e : List ℕ} {d : ℕ} {k : Candidate} → SetsKey a e d k → KeysLow a → key-mark k .col ≤ 1_048_576 → KeysLow e
-low-key {d = d} w h l n =
-    by-test (eqb n d)
-    (λ q. let f = eqb-true n d q in rw (f, w .key) l)
-    (λ q. rw (w .others n (eqb-false n d q)) (h n))
-
-pub low-level : {a e : List ℕ} {d : ℕ} {l : Level} → SetsLevel a e d l → KeysLow a → KeysLow e
-low-level w h n = rw (w .key n) (h n)
-
-pub low-frames : {a e : List ℕ} → FramesStay a e → KeysLow a → KeysLow e
-low-frames w h n = rw (w .key n) (h n)
+-- whatever the words hold, a candidate's column is one of a text
+pub key-low : (stacks : List ℕ) (d : ℕ) → key-mark (key-of stacks d) .col ≤ 1_048_576
+unfolding key-mark key-at
+key-low stacks d =
+    by-test (eqb (getD stacks (frame-at d) 0) 0)
+    (λ e. rw e (omega arith))
+    (λ e. rw e (at-most-fits 1_048_576 (getD stacks (frame-at d + 4) 0)))
 
 -- entries that stay, and frames that stay, are seen as before
 

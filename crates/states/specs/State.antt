@@ -16,7 +16,7 @@ use Rattle.chars.specs.View.{Stands, view}
 use Rattle.stacks.specs.declared.indent.Indents.{Indents}
 use Rattle.stacks.specs.Stack.{entry-words, stack-words}
 use Rattle.stacks.specs.Indent.{Low, entries-of, indents-seen}
-use Rattle.stacks.specs.Frame.{frame-keys, frame-levels, key-of}
+use Rattle.stacks.specs.Frame.{frame-keys, frame-levels}
 use Rattle.states.specs.declared.State.{State}
 
 -- the state with some parts changed
@@ -73,16 +73,11 @@ unfoldable pub key-mark : Candidate → Mark
 key-mark Absent = origin
 key-mark (Possible required n m) = m
 
--- a candidate's column is below 1,048,577, as any column is
-abbrev pub KeysLow : List ℕ → Type 0
-KeysLow stacks = (n : ℕ) → key-mark (key-of stacks n) .col ≤ 1_048_576
-
--- what every step keeps of a state: it stands in the text, its stacks are within their limits, and their columns are those of a text
-pub record Sane (limits : Limits) (text stacks : List ℕ) (s : State) : Type 0 where
+-- what every step keeps of a state: it stands in the text, within the limits of its stacks
+pub record Sane (limits : Limits) (text : List ℕ) (s : State) : Type 0 where
   pub stands : Stands text (s .place)
-  pub low : Low (limits .entries) 1_048_577 stacks (s .indents)
+  pub low : Low (limits .entries) (s .indents)
   pub deep : s .«flow_level» ≤ limits .levels
-  pub keys : KeysLow stacks
 
 -- the words that are lent hold all entries and frames, and the limits are at most 01's
 pub record Lent (limits : Limits) (stacks : List ℕ) : Type 0 where

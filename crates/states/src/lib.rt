@@ -164,7 +164,7 @@ impl State {
 
     // Whether a candidate here is required: at the block's own column, at level 0.
     fn requires_key(self, stacks: &[u32]) -> bool
-        requires { ⌜ (self .place .mark .col < 2 ^ 31) × (self .indents .depth ≤ length (now stacks)) ⌝ }
+        requires { ⌜ (self .place .mark .col ≤ 1_048_576) × (self .indents .depth ≤ length (now stacks)) ⌝ }
         ensures { λ r. ⌜ r ≡ required-of (now (stacks .entry)) self ⌝ }
     {
         if 0 < self.flow_level {
@@ -178,7 +178,7 @@ impl State {
 
     // K2: the candidate of this level, which would be the token of that number.
     pub fn save_key(self, count: u32, stacks: &mut [u32])
-        requires { ⌜ (self .«flow_level» ≤ 255) × (self .indents .depth ≤ entry-words) × (stack-words ≤ length (now stacks)) × (self .place .mark .col < 2 ^ 31) ⌝ }
+        requires { ⌜ (self .«flow_level» ≤ 255) × (self .indents .depth ≤ entry-words) × (stack-words ≤ length (now stacks)) × (self .place .mark .col ≤ 1_048_576) ⌝ }
         ensures { λ r. ⌜ Saves (now (stacks .entry)) (now (stacks .exit)) count self ⌝ }
     {
         if self.simple_key_allowed {

@@ -13,7 +13,8 @@ use Rattle.states.specs.Answer.{quiet-text}
 use Rattle.states.specs.Fetch.{FetchesQuiet}
 use Rattle.states.specs.State.{state-of}
 use Rattle.choices.specs.Tells.{Tells, choice-tells}
-use Rattle.steps.specs.Step.{Chosen, FetchesChoice, Steps, choice-words, has-text}
+use Rattle.states.specs.Refused.{has-text}
+use Rattle.steps.specs.Step.{Chosen, FetchesChoice, Steps, choice-words}
 
 -- what stands at the place
 pub told : {limits : Limits} {text a : List ℕ} {used : ℕ} {s : State} {c d : Choice} → Chosen limits text a used s c → c ≡ d → Tells text s d

@@ -9,7 +9,8 @@ use Rattle.yaml_text.specs.Test.{true-false}
 use Rattle.yaml_scan.proofs.Choice.{the-type}
 use Rattle.yaml_scan.specs.declared.Choice.{Choice}
 use Rattle.yaml_scan.specs.declared.Choice.the-variants.{AtAnchor, AtBlock, AtByteOrderMark, AtColon, AtComma, AtDash, AtDirective, AtEnd, AtMarker, AtPlain, AtQuestion, AtQuoted, AtTag, BelowIndent, Closes, Opens, Stray}
-use Rattle.steps.specs.Step.{has-text, is-brief}
+use Rattle.states.specs.Refused.{has-text}
+use Rattle.steps.specs.Step.{is-brief}
 
 -- of `fetch_other`: the lexemes that hold text
 abbrev pub texts : List ℕ

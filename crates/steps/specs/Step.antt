@@ -2,18 +2,17 @@
 use Prim.Native.Nat.{_<_, _^_, ℕ}
 use mathlib.Core.Bool.{Bool, false, true}
 use mathlib.Core.List.{List}
-use Rattle.yaml_text.specs.Pick.{pick}
 use Rattle.yaml_scan.specs.declared.Choice.{Choice}
 use Rattle.yaml_scan.specs.declared.Choice.the-variants.{AtAnchor, AtBlock, AtByteOrderMark, AtColon, AtComma, AtDash, AtDirective, AtEnd, AtMarker, AtPlain, AtQuestion, AtQuoted, AtTag, BelowIndent, Closes, Opens, Stray}
 use Rattle.yaml_scan.specs.declared.Limits.{Limits}
 use Rattle.yaml_scan.specs.Choice.{choice}
 use Rattle.yaml_scan.specs.Fetch.{fetch, fetch-next}
-use Rattle.rooms.specs.Room.{cleared}
 use Rattle.events.specs.declared.Counts.{Counts}
 use Rattle.states.specs.declared.Fetched.{Fetched}
 use Rattle.states.specs.declared.State.{State}
 use Rattle.states.specs.Fetch.{FetchesText, Ready}
 use Rattle.states.specs.Key.{removed-words, saved-words}
+use Rattle.states.specs.Refused.{choice-bytes}
 use Rattle.states.specs.State.{state-of}
 use Rattle.choices.specs.Choice.{AsDefined}
 use Rattle.brackets.specs.Words.{bracket-words, comma-words}
@@ -38,30 +37,6 @@ choice-words limits AtPlain a count s = saved-words a count s
 choice-words limits (AtAnchor alias) a count s = saved-words a count s
 choice-words limits (AtBlock literal) a count s = saved-words a count s
 choice-words limits (AtQuoted single) a count s = saved-words a count s
-
--- the lexemes that hold text
-abbrev pub has-text : Choice → Bool
-has-text AtDirective = true
-has-text AtTag = true
-has-text AtPlain = true
-has-text (AtAnchor alias) = true
-has-text (AtBlock literal) = true
-has-text (AtQuoted single) = true
-has-text AtEnd = false
-has-text AtByteOrderMark = false
-has-text BelowIndent = false
-has-text Stray = false
-has-text (AtMarker starts) = false
-has-text (Opens sequence) = false
-has-text (Closes sequence) = false
-has-text AtComma = false
-has-text AtDash = false
-has-text AtQuestion = false
-has-text AtColon = false
-
--- the lent bytes where it is refused: a lexeme that holds text leaves zeros behind those used so far, any other leaves them as they are
-abbrev pub choice-bytes : Choice → List ℕ → ℕ → List ℕ
-choice-bytes c before used = pick (has-text c) (cleared before used) before
 
 -- the token of the choice c, from the lent words a to e and the lent bytes `before` to `after`
 abbrev pub FetchesChoice : Limits → List ℕ → List ℕ → List ℕ → List ℕ → List ℕ → Counts → State → Choice → Fetched → Type 0

@@ -2,7 +2,8 @@
 ghost use mathlib.Core.Path.{_≡_};
 ghost use mathlib.Core.Bool.{false, true};
 ghost use Rattle.states.specs.Brief.{brief-fetched};
-ghost use Rattle.steps.specs.Step.{Chosen, Steps, has-text, is-brief};
+ghost use Rattle.states.specs.Refused.{has-text};
+ghost use Rattle.steps.specs.Step.{Chosen, Steps, is-brief};
 use brackets::fetch_flow_collection_end;
 use brackets::fetch_flow_collection_start;
 use brackets::fetch_flow_entry;

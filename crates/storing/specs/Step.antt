@@ -2,7 +2,6 @@
 -- the counts and the lent bytes; where the tokens go is its caller's, who stores the events that `events-of` names.
 use Prim.Native.Nat.{_≤_, ℕ}
 use mathlib.Core.List.{List, []}
-use mathlib.Core.Logic.{_⊎_}
 use mathlib.Core.Path.{_≡_}
 use lib.ListN.{length}
 use lib.Seq.{sets}
@@ -10,12 +9,15 @@ use Rattle.yaml_text.specs.declared.Mark.{Mark}
 use Rattle.yaml_text.specs.declared.Refusal.{Refusal}
 use Rattle.yaml_text.specs.Refusal.{Read, _>>=_, got, refused}
 use Rattle.yaml_scan.specs.declared.Limits.{Limits}
-use Rattle.yaml_scan.specs.State.{Event, News, block-ends, ends-with, goes-on, preceded}
-use Rattle.rooms.specs.Room.{cleared}
+use Rattle.yaml_scan.specs.Choice.{choice}
+use Rattle.yaml_scan.specs.Scan.{to-next-token, unrolled}
+use Rattle.yaml_scan.specs.State.{Event, News, block-ends, counting, ends-with, goes-on, preceded, with-indents}
+use Rattle.yaml_scan.specs.State as definition
 use Rattle.events.specs.declared.Counts.{Counts}
 use Rattle.events.specs.Event.{event-texts}
 use Rattle.states.specs.declared.State.{State}
 use Rattle.states.specs.Fetch.{Ready}
+use Rattle.states.specs.Refused.{choice-bytes}
 use Rattle.states.specs.State.{state-of}
 use Rattle.sink.specs.Stored.{CountsBehind, CountsWithin}
 
@@ -49,7 +51,19 @@ pub record StepEnds (d : Read News) (n m : Counts) (b b' : List ℕ) : Type 0 wh
   pub bytes : b' ≡ sets b (n .used) (event-texts (events-of d))
   pub few : CountsWithin m 1_048_577
 
--- it is refused: the lent bytes are as they were, or zero behind those used so far
-pub record StepRefused (d : Read News) (n : Counts) (b b' : List ℕ) (f : Refusal) : Type 0 where
+-- it is refused: the lent bytes are z
+pub record StepRefused (d : Read News) (z b' : List ℕ) (f : Refusal) : Type 0 where
   pub same : d ≡ refused (f .number) (f .mark)
-  pub bytes : (b' ≡ b) ⊎ (b' ≡ cleared b (n .used))
+  pub bytes : b' ≡ z
+
+-- the lent bytes where the token at x is refused, so many of them used
+abbrev pub token-left : definition.State → List ℕ → ℕ → List ℕ
+token-left x b used = choice-bytes (choice x) b used
+
+-- where the step from x is refused: on the way to its token they stay
+unfoldable pub way-left : Read definition.State → List ℕ → ℕ → List ℕ
+way-left (refused n m) b used = b
+way-left (got x) b used = let u = unrolled x in token-left (counting (u .ended) (with-indents (u .indents) x)) b used
+
+abbrev pub step-left : definition.State → List ℕ → ℕ → List ℕ
+step-left x b used = way-left (to-next-token x) b used

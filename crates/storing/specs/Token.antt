@@ -1,7 +1,6 @@
 -- The second half of a step: what was fetched is what the definition says, and the counts and lent bytes behind it are those of its events.
-use Prim.Native.Nat.{_+_, _≤_, ℕ}
-use mathlib.Core.List.{List, _++_}
-use mathlib.Core.Logic.{_⊎_}
+use Prim.Native.Nat.{_+_, _-_, _≤_, ℕ}
+use mathlib.Core.List.{List, _++_, map}
 use mathlib.Core.Path.{_∙_, _≡_, ap, refl}
 use native.Mathlib.Omega.{arith}
 use lib.ListN.{length}
@@ -12,7 +11,7 @@ use Rattle.yaml_text.specs.Refusal.{Read, _>>=_, got, refused}
 use Rattle.yaml_scan.specs.declared.Limits.{Limits}
 use Rattle.yaml_scan.specs.State.{News, block-ends, ends-with, goes-on}
 use Rattle.yaml_scan.specs.State as definition
-use Rattle.rooms.specs.Room.{cleared}
+use Rattle.yaml_stream.specs.Stream.{counted-from}
 use Rattle.stacks.specs.Frame.{key-of}
 use Rattle.events.specs.declared.Counts.{Counts}
 use Rattle.events.specs.declared.Event.{Event}
@@ -27,7 +26,7 @@ use Rattle.states.specs.Fetch.{FetchesText, bytes-left, fetched-seen}
 use Rattle.states.specs.State.{key-mark, state-of}
 use Rattle.sink.specs.EventsStored.{store-events}
 use Rattle.sink.specs.StepStored.{news-stored}
-use Rattle.sink.specs.StepTokens.{put-news}
+use Rattle.sink.specs.StepTokens.{put-news, shifted}
 use Rattle.sink.specs.Stored.{CountsBehind, counts-ending, token-counted, within-countable, within-counted, within-more}
 use Rattle.storing.specs.Step.{StepEnds, StepGiven, StepGoes, StepRefused, behind-ends, events-of}
 
@@ -116,12 +115,9 @@ module _ {limits : Limits} {text a : List ℕ} {s : State} {n : Counts} (h : Ste
   counted {d = d} {v = v} x c = rw (c, x .events) (token-counted n here candidate ended v (events-of d) (x .laid))
 
   module _ {e w b z b' : List ℕ} {d : Read News} where
-    pub token-refused : {f : Refusal} → FetchesText limits text a e w b z b' k s d (Refused f) → (z ≡ b) ⊎ (z ≡ cleared b (n .used)) → StepRefused (news d) n b b' f
+    pub token-refused : {f : Refusal} → FetchesText limits text a e w b z b' k s d (Refused f) → StepRefused (news d) z b' f
     unfolding _>>=_ fetched-seen bytes-left
-    token-refused v o =
-        let i = seen-refused (n .used) d (v .fetches .same) in
-        let q : b' ≡ z = v .bytes ∙ rw i in
-        record { same = rw i; bytes = rw q o }
+    token-refused v = let i = seen-refused (n .used) d (v .fetches .same) in record { same = rw i; bytes = v .bytes ∙ rw i }
 
     goes-says : {t : State} {v : Event} → FetchesText limits text a e w b z b' k s d (Goes v t)
         → Says b b' d v × (news d ≡ got (goes-on (events-of (news d)) (state-of text e (counted-of k v .count) t)))
@@ -181,9 +177,9 @@ module _ {limits : Limits} {text a : List ℕ} {s : State} {n : Counts} (h : Ste
     fetched-says g at-end = ends-says g .0
     fetched-says g going = goes-says g .0
 
-    -- stored from the slot of the first token on, in the words l
-    pub token-words : {r : Fetched} {v : Event} (l : List ℕ) {l' : List ℕ} → FetchesText limits text a e w b z b' k s d r → FetchedEvent r v → l' ≡ put-news l (n .count) here ended v
-        → l' ≡ store-events l (n .count) (n .used) (events-of (news d))
-    token-words {v = v} l g f q =
+    -- stored from the slot of the first token on, in the words l, where slot 0 is that of token base
+    pub token-words : {r : Fetched} {v : Event} (base : ℕ) (l : List ℕ) {l' : List ℕ} → FetchesText limits text a e w b z b' k s d r → FetchedEvent r v
+        → l' ≡ put-news l (n .count - base) here ended (shifted base v) → l' ≡ store-events l (n .count - base) (n .used) (map (counted-from base) (events-of (news d)))
+    token-words {v = v} base l g f q =
         let x = fetched-says g f in
-        q ∙ news-stored v here ended candidate l (n .count) (n .used) (events-of d) (x .laid) ∙ rw (x .events)
+        q ∙ news-stored base v here ended candidate l (n .count - base) (n .used) (events-of d) (x .laid) ∙ rw (x .events)

@@ -2,6 +2,7 @@
 ghost use mathlib.Core.Path.{_≡_};
 ghost use mathlib.Core.Bool.{_&&_, _||_};
 ghost use lib.ListN.{getD, length, replicate};
+ghost use Rattle.yaml_text.specs.Char.{'!', '<'};
 ghost use Rattle.yaml_text.specs.Class.{is-blank-or-breakz, is-flow};
 ghost use Rattle.yaml_lexeme.specs.Tag.{handled, primary, scan-tag, tag-texts, verbatim};
 ghost use Rattle.chars.specs.View.{view};
@@ -57,7 +58,7 @@ fn refusal(number: u32, mark: Mark) -> Refusal
 
 // `!<x>`: first text empty, second x. 20: no '>'.
 fn verbatim(text: &[u8], start: Mark, out: &mut [u8]) -> Texts
-    requires { ⌜ Tagged (now text) start × (getD (now text) 1 0 ≡ 60) ⌝ }
+    requires { ⌜ Tagged (now text) start × (getD (now text) 1 0 ≡ '<') ⌝ }
     ensures { λ r. ⌜ Lays (now (text .entry)) (now (out .entry)) (now (out .exit)) r (verbatim start (view (now (text .entry)) (first-at start))) ⌝ }
 {
     let first = Place { at: 0, mark: start };
@@ -80,7 +81,7 @@ fn verbatim(text: &[u8], start: Mark, out: &mut [u8]) -> Texts
 
 // `!!s`, `!h!s`: the handle up to its second mark at p, then s. 25: no suffix.
 fn handled(text: &[u8], start: Mark, p: Place, out: &mut [u8]) -> Texts
-    requires { ⌜ NameAt (now text) start p × (getD (now text) (p .at) 0 ≡ 33) ⌝ }
+    requires { ⌜ NameAt (now text) start p × (getD (now text) (p .at) 0 ≡ '!') ⌝ }
     ensures { λ r. ⌜ Lays (now (text .entry)) (now (out .entry)) (now (out .exit)) r (handled start (name-in (now (text .entry)) start .text) (view (now (text .entry)) p)) ⌝ }
 {
     let n = p.at + 1;
@@ -153,7 +154,7 @@ fn ends_tag(flow: bool, c: u32) -> bool
 
 // From its first mark. 26: no end here.
 pub fn scan_tag(text: &[u8], start: Mark, flow: bool, used: u32, out: &mut [u8]) -> Reading
-    requires { ⌜ Indicated (now text) start used × (getD (now text) 0 0 ≡ 33) ⌝ }
+    requires { ⌜ Indicated (now text) start used × (getD (now text) 0 0 ≡ '!') ⌝ }
     ensures { λ r. ⌜ Lexes (now (text .entry)) (now (out .entry)) (now (out .exit)) used r (scan-tag flow (view (now (text .entry)) (first-at start))) ⌝ }
 {
     let t = tag_texts(text, start, out);
@@ -162,9 +163,9 @@ pub fn scan_tag(text: &[u8], start: Mark, flow: bool, used: u32, out: &mut [u8])
         Texts::Got { one, other, place } => {
             let at = place.at;
             if ends_tag(flow, look(text, at)) {
-                let first = text_at(used, one);
-                let second = text_at(used + count(one), other);
-                return got(Kind::Tag(first, second), start, place.mark, place);
+                let handle = text_at(used, one);
+                let suffix = text_at(used + count(one), other);
+                return got(Kind::Tag { handle, suffix }, start, place.mark, place);
             }
             refuse_out(26, place.mark, out)
         }

@@ -24,6 +24,7 @@ use Rattle.reading.specs.declared.Reading.{Reading}
 use Rattle.reading.specs.declared.Reading.the-variants.{Got, Refused}
 use Rattle.reading.specs.Reading.{Lexes}
 use Rattle.stacks.specs.declared.indent.Unrolled.{Unrolled}
+use Rattle.stacks.proofs.Entries.{low-below}
 use Rattle.events.specs.declared.Counts.{Counts}
 use Rattle.states.specs.declared.Fetched.{Fetched}
 use Rattle.states.specs.declared.Fetched.the-variants as fetched
@@ -77,7 +78,7 @@ left {text = text} {a = a} before {n = n} {s = s} at y (Got l) h q =
     let x = scan-directive (from-here text s) in
     let k = q .leaves in
     rw (q .same)
-    (lexed-got before at (out s (q .unrolled)) x y (is-rest text (s .place)) (record { low = k .low; keys = λ g _. k .keys g; few = omega (arith, k .few) }) h
+    (lexed-got before at (out s (q .unrolled)) x y (is-rest text (s .place)) (record { low = low-below (y .low) (k .below); few = omega (arith, k .few) }) h
     (directive-tells text a (n .count) s
     ∙ started (λ m g. outside (state-of text a (n .count) s) m g) (directive-fit (from-here text s))
     ∙ same-for-all x (λ g. rw (← k .same text (n .count), ← k .ended)))

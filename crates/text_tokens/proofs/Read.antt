@@ -26,6 +26,7 @@ use Rattle.stacks.specs.Indent.{Low}
 use Rattle.events.specs.Event.{closing-of}
 use Rattle.states.specs.declared.Fetched.the-variants as fetched
 use Rattle.states.specs.declared.State.{State}
+use Rattle.states.specs.Answer.{ready-saves}
 use Rattle.states.specs.Fetch.{OneByte, Ready}
 use Rattle.states.specs.Key.{Saves}
 use Rattle.states.specs.Rest.{behind-fits, is-rest, rest-at, rest-given, rest-indicated}
@@ -49,7 +50,7 @@ pub first-byte : (text : List ℕ) (p : Place) → getD (rest-at text p) 0 0 ≡
 first-byte text p = let z : p .at + 0 ≡ p .at = omega arith in rw (is-rest text p, getD-drop (p .at) text 0 0, z)
 
 -- a ready state's indents are low, with entries that went too
-pub low-indent : {limits : Limits} {text a : List ℕ} {s : State} {i : Indents} → Ready limits text a s → Low (limits .entries) 1_048_577 a i → i .indent < 2 ^ 21
+pub low-indent : {limits : Limits} {text a : List ℕ} {s : State} {i : Indents} → Ready limits text a s → Low (limits .entries) i → i .indent < 2 ^ 21
 low-indent y h = omega (arith, y .lent)
 
 -- what the function behind the reader asks for
@@ -59,9 +60,8 @@ module _ {limits : Limits} {text a : List ℕ} {s : State} (y : Ready limits tex
   reading-fits (Refused f) h = tt
 
   pub saving : (r : Reading) → Ahead (rest-at text (s .place)) r
-      → Fits (s .place) r × (s .«flow_level» ≤ 255) × (s .indents .depth ≤ entry-words) × (stack-words ≤ length a) × (s .place .mark .col < 2 ^ 31)
-  saving r h =
-      (reading-fits r h, omega (arith, y .deep, y .lent), omega (arith, y .low, y .lent), y .lent .room, omega (arith, y .stands))
+      → Fits (s .place) r × (s .«flow_level» ≤ 255) × (s .indents .depth ≤ entry-words) × (stack-words ≤ length a) × (s .place .mark .col ≤ 1_048_576)
+  saving r h = let k = ready-saves y in (reading-fits r h, k .0, k .1, k .2, k .3)
 
 -- the answer, by what was read
 

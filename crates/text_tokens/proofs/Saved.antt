@@ -54,7 +54,7 @@ in-block a i l v = going true l (with-indents (indents-seen a i) v)
 -- THE LAW
 module _ {limits : Limits} {text a e lent : List ℕ} (before : List ℕ) {from : ℕ} {n : Counts} {s : State} (f : definition.State → Read News)
     (go : tokens.Lexeme → definition.State → definition.State) (i : Indents) (leads allowed : Bool) (adjacent : Mark → ℕ)
-    (at : from ≡ clipped (n .used) (length before)) (y : Ready limits text a s) (low : (room b : ℕ) → Low room b a (s .indents) → Low room b a i)
+    (at : from ≡ clipped (n .used) (length before)) (y : Ready limits text a s) (low : Low (limits .entries) i)
     (goes : Saves a e (n .count) s → (l : tokens.Lexeme) → go l (state-of text e (n .count) s) ≡ state-to e (n .count) s (on i leads allowed adjacent) (l .place)) where
   pub saved : (r : Reading) {x : Read tokens.Lexeme} → Lexes (rest-at text (s .place)) (part from before) lent (n .used) r x
       → Tells f x go (state-of text a (n .count) s) → SavesRead a e (n .count) s r
@@ -63,7 +63,7 @@ module _ {limits : Limits} {text a e lent : List ℕ} (before : List ℕ) {from 
   saved (Refused g) {x} h tells q = lexed-refused before at x (λ (l : tokens.Lexeme). emit (put (l .token) ∷ []) (go l (save-key (state-of text a (n .count) s)))) h tells q
   saved (Got l) {x} h tells q =
       lexed-got before at (on i leads allowed adjacent) x y (is-rest text (s .place))
-      (record { low = λ room b g k. q .entries .low room b i g (low room b k); keys = q .low; few = omega arith })
+      (record { low = low; few = omega arith })
       h
       (tells ∙ same-for-all x (λ m. rw (← q .same text, goes q m)))
       (q .words)
@@ -73,7 +73,7 @@ pub saved-here : {limits : Limits} {text a e lent : List ℕ} (before : List ℕ
     → from ≡ clipped (n .used) (length before) → Ready limits text a s → (r : Reading) {x : Read tokens.Lexeme}
     → Lexes (rest-at text (s .place)) (part from before) lent (n .used) r x → Tells f x (going false) (state-of text a (n .count) s) → SavesRead a e (n .count) s r
     → FetchesSaved limits text a e before (back from before lent) n s f (fetched-of (λ p. s-moved s p false false) 0 (s .place) r)
-saved-here before {s = s} f at y = saved before f (going false) (s .indents) false false (λ m. s .«adjacent_value_allowed_at») at y (λ _ _ l. l) (λ q l. refl)
+saved-here before {s = s} f at y = saved before f (going false) (s .indents) false false (λ m. s .«adjacent_value_allowed_at») at y (y .low) (λ q l. refl)
 
 -- a plain scalar is never refused
 pub never-refused : {rest before after a e : List ℕ} {used count : ℕ} {s : State} {l : tokens.Lexeme} (r : Reading) → Lexes rest before after used r (got l)

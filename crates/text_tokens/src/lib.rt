@@ -10,6 +10,7 @@ ghost use Rattle.yaml_text.specs.Utf8.{chars};
 ghost use Rattle.yaml_scan.specs.Document.{fetch-directive};
 ghost use Rattle.yaml_scan.specs.Fetch.{fetch-anchor, fetch-block-scalar, fetch-flow-scalar, fetch-plain-scalar, fetch-tag};
 ghost use Rattle.rooms.specs.Room.{cleared};
+ghost use Rattle.stacks.specs.Indent.{Low};
 ghost use Rattle.stacks.specs.Stack.{entry-words, stack-words};
 ghost use Rattle.states.specs.Brief.{brief-fetched};
 ghost use Rattle.states.specs.Fetch.{FetchesText, OneByte, Ready};
@@ -50,7 +51,7 @@ fn fetched(
     allowed: bool,
     stacks: &mut [u32],
 ) -> Fetched
-    requires { ⌜ Fits (t .place) r × (s .«flow_level» ≤ 255) × (s .indents .depth ≤ entry-words) × (stack-words ≤ length (now stacks)) × (s .place .mark .col < 2 ^ 31) ⌝ }
+    requires { ⌜ Fits (t .place) r × (s .«flow_level» ≤ 255) × (s .indents .depth ≤ entry-words) × (stack-words ≤ length (now stacks)) × (s .place .mark .col ≤ 1_048_576) ⌝ }
     ensures { λ e. ⌜ SavesRead (now (stacks .entry)) (now (stacks .exit)) count s r × (e ≡ fetched-of (λ p. s-moved t p leads allowed) 0 (t .place) r) ⌝ }
 {
     match r {
@@ -107,7 +108,7 @@ pub fn fetch_plain_scalar(
 
 // A quoted scalar that was read: ':' may stand directly behind it (K5).
 fn fetched_quoted(r: Reading, s: State, count: u32, stacks: &mut [u32]) -> Fetched
-    requires { ⌜ Fits (s .place) r × (s .«flow_level» ≤ 255) × (s .indents .depth ≤ entry-words) × (stack-words ≤ length (now stacks)) × (s .place .mark .col < 2 ^ 31) ⌝ }
+    requires { ⌜ Fits (s .place) r × (s .«flow_level» ≤ 255) × (s .indents .depth ≤ entry-words) × (stack-words ≤ length (now stacks)) × (s .place .mark .col ≤ 1_048_576) ⌝ }
     ensures { λ e. ⌜ SavesRead (now (stacks .entry)) (now (stacks .exit)) count s r × (e ≡ fetched-of (λ p. s-adjacent-here (s-moved s p false false)) 0 (s .place) r) ⌝ }
 {
     match r {
@@ -216,7 +217,7 @@ pub fn fetch_anchor(
 
 // A directive that was read: outside every block, behind their ends.
 fn fetched_left(r: Reading, s: State, stacks: &mut [u32]) -> Fetched
-    requires { ⌜ Fits (s .place) r × (s .«flow_level» ≤ 255) × (s .indents .depth ≤ entry-words) × (stack-words ≤ length (now stacks)) ⌝ }
+    requires { ⌜ Fits (s .place) r × (s .«flow_level» ≤ 255) × Low entry-words (s .indents) × (stack-words ≤ length (now stacks)) ⌝ }
     ensures { λ e. ⌜ LeftRead (now (stacks .entry)) (now (stacks .exit)) s r e ⌝ }
 {
     match r {

@@ -9,6 +9,7 @@ use lib.ListN.{length}
 use Rattle.yaml_text.specs.declared.Mark.{Mark}
 use Rattle.yaml_text.specs.Mark.{Place, edge-of, origin}
 use Rattle.yaml_text.specs.Test.{by-test, true-false}
+use Rattle.yaml_text.specs.All.{All}
 use Rattle.yaml_text.specs.PlaceLaws.{Fits, fits-refl}
 use Rattle.yaml_lexeme.specs.Token.{StreamEnd, StreamStart, Token, empty-token}
 use Rattle.yaml_lexeme.specs.Role.{Open, role}
@@ -19,13 +20,13 @@ use Rattle.yaml_scan.specs.declared.Limits.{Limits}
 use Rattle.yaml_scan.specs.Indent.{Indents, unroll}
 use Rattle.yaml_scan.specs.IndentLaws.{Rises, Same, open-blocks, same-refl, unroll-all, unroll-blocks, unroll-none, unroll-rises, unroll-within}
 use Rattle.yaml_scan.specs.Keys.{top-key}
-use Rattle.yaml_scan.specs.State.{Event, State, block-ends, ends-with, goes-on, in-flow, mark-of, put, unroll-to}
-use Rattle.yaml_scan.specs.Scan.{outcome, scanned, unrolled}
+use Rattle.yaml_scan.specs.State.{Event, News, State, block-ends, ends-with, goes-on, in-flow, mark-of, preceded, put, unroll-to}
+use Rattle.yaml_scan.specs.Scan.{begin, outcome, scanned, step, unrolled}
 use Rattle.yaml_scan.specs.Candidates.{Over}
 use Rattle.yaml_scan.specs.Slots.{Slot, flat, slot, slots, tokens-of}
 use Rattle.yaml_scan.specs.SlotLaws.{flat-append, slots-append, slots-length}
 use Rattle.yaml_scan.specs.Moves.{Move, Moves, begins, closes, leaves, opens, parts, tells, uses}
-use Rattle.yaml_scan.specs.Steps.{Gapped, Takes, gapped, inside, lapses, stays, unrolled-state}
+use Rattle.yaml_scan.specs.Steps.{Gapped, Takes, gapped, inside, lapses, stays, step-by, unrolled-state}
 use Rattle.yaml_scan.specs.Runs.{puts-ends}
 use Rattle.theorems.specs.Induction.{outcome-good}
 use Rattle.theorems.specs.Nested.{Nested, done, kept, then}
@@ -79,11 +80,11 @@ zero-build : {i : Indents} {xs : List Slot} {ks : List Candidate} (p : Place) �
 unfolding top-key
 zero-build {i} p k (outside {c = c} h s l) = ends-build i p c k (outside {c = c} h s l)
 
-unrolled-in : (t : State) → in-flow t ≡ true → unrolled t ≡ record { ended = 0; indents = t .indents }
+pub unrolled-in : (t : State) → in-flow t ≡ true → unrolled t ≡ record { ended = 0; indents = t .indents }
 unfolding unrolled
 unrolled-in t e = rw (e, unrolled)
 
-unrolled-out : (t : State) → in-flow t ≡ false → unrolled t ≡ unroll-to (edge-of (mark-of t)) t
+pub unrolled-out : (t : State) → in-flow t ≡ false → unrolled t ≡ unroll-to (edge-of (mark-of t)) t
 unfolding unrolled
 unrolled-out t e = rw (e, unrolled)
 
@@ -134,13 +135,16 @@ move-rises (parts m e) r = r
 move-rises (begins sequence m e b) r = b .rolls .rises r
 move-rises (uses e b k) r = b .rolls .rises r
 
-move-nested : (s u : State) (es fs : List Event) → Moves s (goes-on es u) → Takes s (goes-on es u) → Good u fs → Ready s (es ++ fs)
-move-nested s u es fs m k g xs h edge =
-    rw (slots-append xs es fs) (g (slots xs es) (record {
+move-stands : (s u : State) (es : List Event) → Moves s (goes-on es u) → Takes s (goes-on es u) → (xs : List Slot) → Stands s xs → AtEdge s → Stands u (slots xs es)
+move-stands s u es m k xs h edge =
+    record {
       counted = omega (arith, m .3, h .counted, slots-length xs es);
       rises = move-rises (m .2) (h .rises);
       built = move-builds s (m .0) (u .place) xs (k .1) (m .2) h edge;
-    }))
+    }
+
+move-nested : (s u : State) (es fs : List Event) → Moves s (goes-on es u) → Takes s (goes-on es u) → Good u fs → Ready s (es ++ fs)
+move-nested s u es fs m k g xs h edge = rw (slots-append xs es fs) (g (slots xs es) (move-stands s u es m k xs h edge))
 
 end-nested : (s : State) (es : List Event) → Moves s (ends-with es) → Ready s es
 unfolding slots flat
@@ -154,9 +158,30 @@ end-nested s es m xs h edge =
       rw (unroll-all (s .indents .indent) (s .indents .entries) (h .rises)) at l,
     )
 
+-- the slots behind a step stand as well
+abbrev pub StandsOn : State → News → Type 0
+StandsOn s (goes-on es u) = (xs : List Slot) → Stands s xs → Stands u (slots xs es)
+StandsOn s (ends-with es) = (xs : List Slot) → Stands s xs → Closes (flat (slots xs es))
+
+pub step-stands : (limits : Limits) (s : State) → All News (StandsOn s) (step limits s)
+step-stands limits s = step-by limits s by-news
+  where
+    by-news : (t : State) → Gapped s t → (w : News) → Moves (unrolled-state t) w → Takes (unrolled-state t) w → StandsOn s (preceded (block-ends (unrolled t .ended) (mark-of t)) w)
+    by-news t g (goes-on es u) m k = λ xs h.
+        let bs = block-ends (unrolled t .ended) (mark-of t) in
+        let j = gap-stands g h in
+        let b = unrolled-stands t xs (j .0) (j .1) in
+        rw (slots-append xs bs es) (move-stands (unrolled-state t) u es m k (slots xs bs) (b .0) (b .1))
+    by-news t g (ends-with es) m k = gap-nested s t es g (end-nested (unrolled-state t) es m)
+
+-- StreamStart was given
+pub begin-stands : (cs : List ℕ) → Stands (begin cs) (slot (empty-token StreamStart origin) [] ∷ [])
+unfolding flat role open-blocks
+begin-stands cs = record { counted = refl; rises = tt; built = outside tt tt (λ os. then kept done) }
+
 pub scan-nested : (limits : Limits) (bytes : List ℕ) (es : List Event) → outcome limits bytes ≡ scanned es → Closes (tokens-of es)
-unfolding slots flat role open-blocks
+unfolding slots
 scan-nested limits bytes es e =
     let r = outcome-good limits Good Ready gap-nested move-nested end-nested bytes es e in
     let xs : List Slot = slot (empty-token StreamStart origin) [] ∷ [] in
-    rw (r .whole) (r .good xs (record { counted = refl; rises = tt; built = outside tt tt (λ os. then kept done) }))
+    rw (r .whole) (r .good xs (begin-stands (r .text)))

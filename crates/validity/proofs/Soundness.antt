@@ -21,8 +21,8 @@ use Rattle.yaml_text.specs.Utf8Laws.{first-fits}
 use Rattle.validity.specs.declared.Checked.{Checked}
 use Rattle.validity.specs.declared.Checked.the-variants.{Refused, Sound}
 use Rattle.validity.specs.Checked.{checked}
-use Rattle.validity.specs.Sound.{good-len, passes, sound}
-use Rattle.validity.proofs.DecodeTurns.{checked-char, turn, turn-none, turn-nul}
+use Rattle.validity.specs.Sound.{Goes, good-len, onto, passes, past, sound, stops}
+use Rattle.validity.proofs.DecodeTurns.{checked-char, some-left, turn, turn-none, turn-nul}
 
 pub passes-sound : (r : Checked) → passes r ≡ true → Sound ≡ r
 passes-sound Sound e = refl
@@ -77,7 +77,7 @@ next s at n h e z = by-good (first (drop at s)) n e z (λ c f q.
     record { some = omega arith; within = omega arith; same = rw drop-drop at (sound-char (drop at s) c n f q) })
 
 -- where no character other than NUL begins
-pub sound-stop : (l : List ℕ) (n : ℕ) → 0 < length l → n ≡ good-len (first l) → n ≡ 0 → sound l ≡ false
+sound-stop : (l : List ℕ) (n : ℕ) → 0 < length l → n ≡ good-len (first l) → n ≡ 0 → sound l ≡ false
 unfolding is-z
 sound-stop l n h e z = by (first l) refl (sym z ∙ e)
   where
@@ -88,3 +88,19 @@ sound-stop l n h e z = by (first l) refl (sym z ∙ e)
         (λ q. let w = first-fits l c k f in let v : 0 ≡ k = rw q at g in absurd (omega arith))
     by Ill f g = sym (ap passes (turn-none origin l Ill h (sym f) (inl refl)))
     by End f g = sym (ap passes (turn-none origin l End h (sym f) (inr refl)))
+
+-- by characters from a place on
+pub record Went (s : List ℕ) (at upto r : ℕ) : Type 0 where
+  pub onward : at ≤ r
+  pub within : r ≤ length s
+  pub same : sound (drop at s) ≡ sound (drop r s)
+  pub short : r < upto → sound (drop r s) ≡ false
+
+pub went : {s : List ℕ} {at upto r : ℕ} → at ≤ length s → upto ≤ length s → Goes s upto at r → Went s at upto r
+went h u (past l) = record { onward = omega arith; within = h; same = refl; short = λ k. absurd (omega arith) }
+went {s} {at} h u (stops {n = n} l e z) =
+    record { onward = omega arith; within = h; same = refl; short = λ _. sound-stop (drop at s) n (some-left s at (omega arith)) e z }
+went {s} {at} h u (onto {n = n} l e z w) =
+    let k = next s at n h e z in
+    let v = went (k .within) u w in
+    record { onward = omega (arith, k .some, v .onward); within = v .within; same = k .same ∙ v .same; short = v .short }

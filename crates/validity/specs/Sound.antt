@@ -1,15 +1,17 @@
 -- What the inner functions of the validity pass answer.
-use Prim.Native.Nat.{_<_, _≤_, ℕ}
+use Prim.Native.Nat.{_+_, _-_, _<_, _≤_, ℕ}
 use mathlib.Core.Bool.{Bool, false, true}
 use mathlib.Core.List.{List}
 use mathlib.Core.Path.{_≡_}
-use lib.ListN.{drop, length}
+use lib.Dec.{ltb}
+use lib.ListN.{drop}
 use Rattle.yaml_text.specs.declared.Decoded.{Decoded}
 use Rattle.yaml_text.specs.declared.Decoded.the-variants.{Char, End, Ill}
 use Rattle.yaml_text.specs.Pick.{pick}
 use Rattle.yaml_text.specs.Class.{is-z}
 use Rattle.yaml_text.specs.Mark.{origin}
 use Rattle.yaml_text.specs.Decode.{decode}
+use Rattle.yaml_text.specs.Utf8.{first}
 use Rattle.validity.specs.declared.Checked.{Checked}
 use Rattle.validity.specs.declared.Checked.the-variants.{Refused, Sound}
 use Rattle.validity.specs.Checked.{checked}
@@ -28,9 +30,12 @@ good-len (Char c n) = pick (is-z c) 0 n
 good-len Ill = 0
 good-len End = 0
 
--- the pass went on from `at` to r: up to `upto`, or to where no good character begins
-pub record Went (s : List ℕ) (at upto r : ℕ) : Type 0 where
-  pub onward : at ≤ r
-  pub within : r ≤ length s
-  pub same : sound (drop at s) ≡ sound (drop r s)
-  pub short : r < upto → sound (drop r s) ≡ false
+-- by characters from a place on, until `upto` or where none other than NUL begins
+pub data Goes (s : List ℕ) (upto : ℕ) : ℕ → ℕ → Type 0 where
+  past : {at : ℕ} → upto ≤ at → Goes s upto at at
+  stops : {at n : ℕ} → at < upto → n ≡ good-len (first (drop at s)) → n ≡ 0 → Goes s upto at at
+  onto : {at n r : ℕ} → at < upto → n ≡ good-len (first (drop at s)) → (n ≡ 0 → ⊥) → Goes s upto (at + n) r → Goes s upto at r
+
+-- where a block of 64 bytes ends, or the text
+abbrev pub block-end : ℕ → ℕ → ℕ
+block-end at n = pick (ltb (n - at) 64) n (at + 64)

@@ -8,8 +8,10 @@ ghost use Rattle.yaml_lexeme.specs.Record.{record-words};
 ghost use Rattle.vectors.specs.Hex.{ReadHex, hex-value};
 ghost use Rattle.vectors.specs.Line.{line-length};
 use records::RECORD_WORDS;
+pub use write::behind;
 pub use write::put_accepted;
 pub use write::put_head;
+pub use write::put_hex;
 pub use write::put_refused;
 
 // Where the line that begins at `at` ends.

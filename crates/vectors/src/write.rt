@@ -23,7 +23,7 @@ fn figure(n: u8) -> u8
 }
 
 // Two digits for each byte, from `at` on; where the next goes.
-fn put_hex(out: &mut [u8], at: usize, bytes: &[u8]) -> usize
+pub fn put_hex(out: &mut [u8], at: usize, bytes: &[u8]) -> usize
     requires { ⌜ (at < 2 ^ 60) × (length (now bytes) < 2 ^ 60) ⌝ }
     ensures { λ r. ⌜ Written (now (out .entry)) at (hex-text (now (bytes .entry))) (now (out .exit)) r ⌝ }
     ensures { λ r. ⌜ r ≡ at + 2 * length (now (bytes .entry)) ⌝ }
@@ -59,7 +59,7 @@ pub fn put_head(out: &mut [u8], text: &[u8]) -> usize
 }
 
 // The byte behind a record that so many follow.
-fn behind(left: u32) -> u8
+pub fn behind(left: u32) -> u8
     ensures { λ r. ⌜ r ≡ row-end left ⌝ }
 {
     if left == 0 { 124 } else { 59 }

@@ -6,13 +6,12 @@ use lib.Dec.{eqb, ltb}
 use lib.ListN.{drop}
 use Rattle.yaml_text.specs.declared.Mark.{Mark}
 use Rattle.yaml_text.specs.Pick.{pick}
-use Rattle.yaml_text.specs.Char.{'!', '0', dot, space}
+use Rattle.yaml_text.specs.Char.{'!', '0', 'A', 'G', 'L', 'M', 'T', 'Y', dot, space}
 use Rattle.yaml_text.specs.Class.{is-alpha, is-blank, is-blank-or-breakz, is-breakz, is-digit, is-non-space, is-tag, is-uri, none-left, same}
 use Rattle.yaml_text.specs.Mark.{Place, Run, along, before-run, here, look, nothing-at, skip-break, skip-by, run-of}
 use Rattle.yaml_text.specs.Refusal.{Read, _>>=_, got, need, refused}
 use Rattle.yaml_lexeme.specs.Token.{Lexeme, ReservedDirective, TagDirective, VersionDirective, lexeme}
 use Rattle.yaml_lexeme.specs.Gap.{blanks, blanks-and-comment}
-use Rattle.yaml_lexeme.specs.Letter.{'A', 'G', 'L', 'M', 'T', 'Y'}
 use Rattle.yaml_lexeme.specs.Tag.{uri-at}
 
 pub record Numbered : Type 0 where

@@ -2,16 +2,15 @@
 use Prim.Native.Nat.{_*_, _+_, suc, zero, ℕ}
 use mathlib.Core.Bool.{false, true}
 use mathlib.Core.List.{List, [], _∷_}
-use lib.Dec.{eqb}
 use lib.ListN.{drop}
 use Rattle.yaml_text.specs.declared.Mark.{Mark}
-use Rattle.yaml_text.specs.Char.{'0', backslash, double-quote, space, tab}
+use Rattle.yaml_text.specs.Char.{'0', 'L', 'N', 'P', 'U', 'a', 'b', 'e', 'f', 'n', 'r', 't', 'u', 'v', 'x', backslash, double-quote, slash, space, tab, underscore}
 use Rattle.yaml_text.specs.Utf8.{is-scalar}
 use Rattle.yaml_text.specs.Class.{as-hex, is-hex, peek}
 use Rattle.yaml_text.specs.Refusal.{Read, _>>=_, got, need, refused}
-use Rattle.yaml_lexeme.specs.Letter.{'L', 'N', 'P', 'U', 'a', 'b', 'e', 'f', 'n', 'r', 't', 'u', 'v', 'x', slash, underscore}
 use Rattle.yaml_lexeme.specs.declared.Named.{Named}
 use Rattle.yaml_lexeme.specs.declared.Named.the-variants.{Digits, Stands, Unknown}
+use Rattle.yaml_lexeme.specs.Table.{looked-up}
 
 pub record Escaped : Type 0 where
   pub char : ℕ
@@ -58,16 +57,8 @@ escapes =
     ∷ ('U' takes 8)
     ∷ []
 
-unfoldable pub looked-up : ℕ → List Row → Named
-looked-up c [] = Unknown
-looked-up c (r ∷ rs) =
-    elim (eqb c (r .0)) [
-      | true ↦ r .1
-      | false ↦ looked-up c rs
-    ]
-
 unfoldable pub named : ℕ → Named
-named c = looked-up c escapes
+named c = looked-up Unknown c escapes
 
 -- n hexadecimal digits, behind those of the value v; 38: one is missing
 unfoldable pub hex-number : Mark → ℕ → ℕ → List ℕ → Read ℕ

@@ -18,7 +18,8 @@ use Rattle.yaml_text.specs.All.{All, all-bind, all-need, all-test, all-weak, ho
 use Rattle.yaml_text.specs.PlaceLaws.{there}
 use Rattle.yaml_lexeme.specs.declared.Named.{Named}
 use Rattle.yaml_lexeme.specs.declared.Named.the-variants.{Digits, Stands, Unknown}
-use Rattle.yaml_lexeme.specs.Escape.{Escaped, escape, escape-of, hex-number, looked-up, named}
+use Rattle.yaml_lexeme.specs.Table.{looked-up}
+use Rattle.yaml_lexeme.specs.Escape.{Escaped, escape, escape-of, hex-number, named}
 use Rattle.yaml_lexeme.specs.Tag.{code-point, octet, percent, trailing}
 
 abbrev pub Took : ℕ → Escaped → Type 0

@@ -8,13 +8,14 @@ use mir.Facts.{and-yes}
 use Rattle.yaml_text.specs.Test.{by-test}
 use Rattle.yaml_lexeme.specs.declared.Named.{Named}
 use Rattle.yaml_lexeme.specs.declared.Named.the-variants.{Unknown}
-use Rattle.yaml_lexeme.specs.Escape.{Row, escapes, looked-up, named}
+use Rattle.yaml_lexeme.specs.Table.{looked-up}
+use Rattle.yaml_lexeme.specs.Escape.{Row, escapes, named}
 
 abbrev pub each-row : (ℕ → Named → Bool) → List Row → Bool
 each-row test [] = true
 each-row test (r ∷ rs) = test (r .0) (r .1) && each-row test rs
 
-by-rows : (test : ℕ → Named → Bool) (rows : List Row) → T (each-row test rows) → (c : ℕ) → T (test c Unknown) → T (test c (looked-up c rows))
+by-rows : (test : ℕ → Named → Bool) (rows : List Row) → T (each-row test rows) → (c : ℕ) → T (test c Unknown) → T (test c (looked-up Unknown c rows))
 unfolding looked-up
 by-rows test [] t c u = u
 by-rows test (r ∷ rs) t c u =

@@ -1,8 +1,8 @@
 pub mod Token
+pub mod Table
 pub mod Record
 pub mod Gap
 pub mod Plain
-pub mod Letter
 pub mod Escape
 pub mod Fold
 pub mod Quoted

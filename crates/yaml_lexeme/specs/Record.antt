@@ -1,11 +1,10 @@
 -- Tokens as code holds them (the types of src/lib.rt): the words of a token's record, the token of a record, and how a token of the definition is held.
 use Prim.Native.Nat.{_+_, ℕ}
-use mathlib.Core.Bool.{Bool, _&&_, false, true}
 use mathlib.Core.List.{List, [], _++_, _∷_, map}
-use lib.Dec.{eqb}
 use lib.ListN.{getD, length}
 use Rattle.yaml_text.specs.declared.Mark.{Mark}
 use Rattle.yaml_text.specs.Pick.{pick}
+use Rattle.yaml_text.specs.Class.{same}
 use Rattle.yaml_lexeme.specs.declared.Kind.{Kind as HeldKind}
 use Rattle.yaml_lexeme.specs.declared.Kind.the-variants as held
 use Rattle.yaml_lexeme.specs.declared.Recorded.{Recorded}
@@ -14,6 +13,7 @@ use Rattle.yaml_lexeme.specs.declared.Style.{Style}
 use Rattle.yaml_lexeme.specs.declared.Style.the-variants.{DoubleQuoted, Folded, Literal, Plain, SingleQuoted}
 use Rattle.yaml_lexeme.specs.declared.Text.{Text}
 use Rattle.yaml_lexeme.specs.declared.Token.{Token as HeldToken}
+use Rattle.yaml_lexeme.specs.Table.{looked-up}
 use Rattle.yaml_lexeme.specs.Token.{Alias, Anchor, BlockEnd, BlockEntry, BlockMappingStart, BlockSequenceStart, ByteOrderMark, DocumentEnd, DocumentStart, FlowEntry, FlowMappingEnd, FlowMappingStart, FlowSequenceEnd, FlowSequenceStart, Key, Kind, ReservedDirective, Scalar, StreamEnd, StreamStart, Tag, TagDirective, Token, Value, VersionDirective, size, token-bytes}
 
 -- words a record
@@ -137,11 +137,6 @@ mark-in w i = record { index = getD w i 0; line = getD w (i + 1) 0; col = getD w
 abbrev pub text-in : List ℕ → ℕ → Text
 text-in w i = record { at = getD w i 0; len = getD w (i + 1) 0 }
 
--- what stands for the number n in a table
-unfoldable pub numbered : ℕ → List (ℕ × Recorded) → Recorded
-numbered n [] = NoToken
-numbered n (x ∷ xs) = elim (eqb n (x .0)) [ true ↦ x .1 | false ↦ numbered n xs ]
-
 -- a token of this kind, with the marks of w
 abbrev pub with-marks : List ℕ → HeldKind → Recorded
 with-marks w k = Found (record { kind = k; start = mark-in w 1; end = mark-in w 4 })
@@ -165,21 +160,15 @@ kinds-in w =
 abbrev pub kind-rows : List ℕ → List (ℕ × Recorded)
 kind-rows w =
     let t = text-in w 7 in
-    (number-of (held.Scalar Plain t), numbered (getD w 11 0) (scalar-rows w t)) ∷ map (λ (k : HeldKind). (number-of k, with-marks w k)) (kinds-in w)
+    (number-of (held.Scalar Plain t), looked-up NoToken (getD w 11 0) (scalar-rows w t)) ∷ map (λ (k : HeldKind). (number-of k, with-marks w k)) (kinds-in w)
 
 -- the only token whose record w can be, by word 1 and, of a scalar, word 12
 abbrev pub token-by-number : List ℕ → Recorded
-token-by-number w = numbered (getD w 0 0) (kind-rows w)
-
-unfoldable pub same-words : List ℕ → List ℕ → Bool
-same-words [] [] = true
-same-words [] (b ∷ m) = false
-same-words (a ∷ l) [] = false
-same-words (a ∷ l) (b ∷ m) = eqb a b && same-words l m
+token-by-number w = looked-up NoToken (getD w 0 0) (kind-rows w)
 
 -- that token, if w is its record
 abbrev pub if-record : List ℕ → Recorded → Recorded
-if-record w (Found t) = pick (same-words (record-of t) w) (Found t) NoToken
+if-record w (Found t) = pick (same (record-of t) w) (Found t) NoToken
 if-record w NoToken = NoToken
 
 unfoldable pub token-of : List ℕ → Recorded

@@ -9,6 +9,7 @@ use lib.ListN.{drop, length, length-append, take}
 use lib.Seq.{drop-at, take-at}
 use borrow.Author.Tests.{eqb-true, eq-eqb}
 use Rattle.yaml_text.specs.declared.Mark.{Mark}
+use Rattle.yaml_text.specs.Class.{same}
 use Rattle.yaml_text.specs.Test.{both-true, by-test, true-false}
 use Rattle.yaml_lexeme.specs.declared.Kind.{Kind as HeldKind}
 use Rattle.yaml_lexeme.specs.declared.Kind.the-variants as held
@@ -16,8 +17,9 @@ use Rattle.yaml_lexeme.specs.declared.Recorded.{Recorded}
 use Rattle.yaml_lexeme.specs.declared.Recorded.the-variants.{Found, NoToken}
 use Rattle.yaml_lexeme.specs.declared.Style.the-variants.{DoubleQuoted, Folded, Literal, Plain, SingleQuoted}
 use Rattle.yaml_lexeme.specs.declared.Token.{Token as HeldToken}
+use Rattle.yaml_lexeme.specs.Table.{looked-up}
 use Rattle.yaml_lexeme.specs.Token.{Token, token-bytes}
-use Rattle.yaml_lexeme.specs.Record.{if-record, laid-token, number-of, numbered, record-of, record-words, records, same-words, style-number, token-by-number, token-of, values-of}
+use Rattle.yaml_lexeme.specs.Record.{if-record, laid-token, number-of, record-of, record-words, records, style-number, token-by-number, token-of, values-of}
 
 pub record-length : (t : HeldToken) → length (record-of t) ≡ record-words
 unfolding record-of
@@ -49,24 +51,24 @@ module _ (used : ℕ) (t : Token) (ts : List Token) (l : List ℕ) where
 
 -- the test of lists
 
-pub same-itself : (l : List ℕ) → same-words l l ≡ true
-unfolding same-words
+pub same-itself : (l : List ℕ) → same l l ≡ true
+unfolding same
 same-itself [] = refl
 same-itself (a ∷ l) = rw (eq-eqb a a refl, same-itself l)
 
-pub same-true : (l m : List ℕ) → same-words l m ≡ true → l ≡ m
-unfolding same-words
+pub same-true : (l m : List ℕ) → same l m ≡ true → l ≡ m
+unfolding same
 same-true [] [] e = refl
 same-true [] (b ∷ m) e = true-false (sym e)
 same-true (a ∷ l) [] e = true-false (sym e)
 same-true (a ∷ l) (b ∷ m) e =
-    let h = both-true (eqb a b) (same-words l m) e in
+    let h = both-true (eqb a b) (same l m) e in
     rw (eqb-true a b (h .0), same-true l m (h .1))
 
 -- the record of a token is that token's
 
 of-number : (k : HeldKind) (start end : Mark) → token-by-number (record-of (record { kind = k; start = start; end = end })) ≡ Found (record { kind = k; start = start; end = end })
-unfolding numbered number-of style-number values-of record-of
+unfolding looked-up number-of style-number values-of record-of
 of-number held.StreamStart start end = refl
 of-number held.StreamEnd start end = refl
 of-number (held.VersionDirective a b) start end = refl
@@ -113,7 +115,7 @@ is-found NoToken = ⊥
 if-found : (w : List ℕ) (r : Recorded) (t : HeldToken) → if-record w r ≡ Found t → record-of t ≡ w
 unfolding found-token is-found
 if-found w (Found u) t e =
-    by-test (same-words (record-of u) w)
+    by-test (same (record-of u) w)
     (λ h. let g : Found u ≡ Found t = rw (h, if-record) at e in
     let s : u ≡ t = ap (λ (r : Recorded). found-token r u) g in
     rw (sym s) (same-true (record-of u) w h))

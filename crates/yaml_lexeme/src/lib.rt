@@ -49,8 +49,8 @@ pub struct Text {
 pub enum Kind {
     StreamStart,
     StreamEnd,
-    VersionDirective(u32, u32),
-    TagDirective(Text, Text),
+    VersionDirective { major: u32, minor: u32 },
+    TagDirective { handle: Text, prefix: Text },
     DocumentStart,
     DocumentEnd,
     ByteOrderMark,
@@ -67,9 +67,9 @@ pub enum Kind {
     Value,
     Alias(Text),
     Anchor(Text),
-    Tag(Text, Text),
-    Scalar(Style, Text),
-    ReservedDirective(Text, Text),
+    Tag { handle: Text, suffix: Text },
+    Scalar { style: Style, text: Text },
+    ReservedDirective { name: Text, parameters: Text },
 }
 
 // A token as code holds it.

@@ -190,7 +190,7 @@ known-drop : (gs : List Given) (ks : List Candidate) → AllKnown gs ks → AllK
 known-drop gs [] h = h
 known-drop gs (k ∷ ks) h = h .1
 
-fall-drop : (b : ℕ) (ks : List Candidate) → Fall b ks → Fall b (drop 1 ks)
+pub fall-drop : (b : ℕ) (ks : List Candidate) → Fall b ks → Fall b (drop 1 ks)
 fall-drop b [] f = f
 fall-drop b (Absent ∷ ks) f = f
 fall-drop b (Possible required n k ∷ ks) f = fall-less n b ks (omega (arith, f .0)) (f .1)

@@ -9,7 +9,8 @@ use Rattle.yaml_lexeme.specs.Token.{kind-bytes, texts}
 use Rattle.yaml_lexeme.specs.Record.{laid, number-of, record-of, records, style-number, values-of}
 use Rattle.yaml_lexeme.specs.Gap.{blanks, blanks-and-comment, comment-after, gap-turn, is-leading, on-blank, on-hash, on-other, skip-gap, to-break}
 use Rattle.yaml_lexeme.specs.Plain.{glue, plain-stops, plain-text, scan-plain-scalar}
-use Rattle.yaml_lexeme.specs.Escape.{escape, escape-of, hex-number, looked-up, named}
+use Rattle.yaml_lexeme.specs.Table.{looked-up}
+use Rattle.yaml_lexeme.specs.Escape.{escape, escape-of, hex-number, named}
 use Rattle.yaml_lexeme.specs.Fold.{fold}
 use Rattle.yaml_lexeme.specs.Quoted.{broken, fits-after, folds-to, quoted-blank, quoted-break, quoted-char, quoted-line, quoted-run, quoted-text, quoted-turn, scan-flow-scalar}
 use Rattle.yaml_lexeme.specs.Block.{block-content, chomped, chomping-of, content, content-column, content-turn, increment-of, indicators, is-chomp, largest, lines-after, lines-on, margin, no-content, opening-turn, opens-content, own-break, scan-block-scalar, separator}

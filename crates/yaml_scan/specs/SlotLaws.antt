@@ -70,7 +70,7 @@ total [] = 0
 total (put t ∷ es) = suc (total es)
 total (put-before n ts ∷ es) = length ts + total es
 
-flat-more : (xs : List Slot) (t : Token) → length (flat (xs ++ (slot t [] ∷ []))) ≡ suc (length (flat xs))
+pub flat-more : (xs : List Slot) (t : Token) → length (flat (xs ++ (slot t [] ∷ []))) ≡ suc (length (flat xs))
 unfolding flat
 flat-more [] t = refl
 flat-more (x ∷ xs) t =

@@ -99,7 +99,7 @@ takes : (s : State) (w : News) → Next [] s w → Takes s w
 takes s (goes-on es u) h = (h .0, h .1)
 takes s (ends-with es) h = tt
 
-next-moves : (limits : Limits) (s : State) → All News (Moves s) (fetch-next limits s)
+pub next-moves : (limits : Limits) (s : State) → All News (Moves s) (fetch-next limits s)
 unfolding choice fetch
 next-moves limits s =
     by-test (is-z (look (s .place)))

@@ -6,7 +6,7 @@ use mathlib.Core.List.{List, [], _∷_}
 use lib.Dec.{eqb, leb}
 use lib.ListN.{getD}
 use Rattle.yaml_text.specs.Pick.{pick}
-use Rattle.yaml_text.specs.Char.{'!', '0', '[', ']', byte-order-mark, carriage-return, close-brace, comma, line-feed, open-brace, space, tab}
+use Rattle.yaml_text.specs.Char.{'!', '#', '$', '%', '&', '*', '+', '-', '0', '9', ':', '=', '?', 'A', 'F', 'Z', '[', ']', 'a', 'f', 'z', '~', at-sign, byte-order-mark, carriage-return, close-brace, close-parenthesis, comma, dot, line-feed, open-brace, open-parenthesis, semicolon, single-quote, slash, space, tab, underscore}
 
 -- the character n places on; 0 past the end
 abbrev pub peek : List ℕ → ℕ → ℕ
@@ -45,29 +45,29 @@ is-bom c = eqb c byte-order-mark
 
 -- 5.6, to is-tag
 unfoldable pub is-digit : ℕ → Bool
-is-digit c = leb 48 c && leb c 57
+is-digit c = leb '0' c && leb c '9'
 
 unfoldable pub is-hex : ℕ → Bool
-is-hex c = is-digit c || (leb 65 c && leb c 70) || (leb 97 c && leb c 102)
+is-hex c = is-digit c || (leb 'A' c && leb c 'F') || (leb 'a' c && leb c 'f')
 
--- the value of a hexadecimal digit
+-- the value of a hexadecimal digit: A and a have 10
 unfoldable pub as-hex : ℕ → ℕ
-as-hex c = pick (is-digit c) (c - '0') (pick (leb c 70) (c - 55) (c - 87))
+as-hex c = pick (is-digit c) (c - '0') (pick (leb c 'F') (c - ('A' - 10)) (c - ('a' - 10)))
 
 -- letters, digits, _ and -
 unfoldable pub is-alpha : ℕ → Bool
-is-alpha c = is-digit c || (leb 65 c && leb c 90) || (leb 97 c && leb c 122) || among c (95 ∷ 45 ∷ [])
+is-alpha c = is-digit c || (leb 'A' c && leb c 'Z') || (leb 'a' c && leb c 'z') || among c (underscore ∷ '-' ∷ [])
 
 -- the same without _
 unfoldable pub is-word : ℕ → Bool
-is-word c = is-alpha c && not (eqb c 95)
+is-word c = is-alpha c && not (eqb c underscore)
 
--- word characters and # ; / ? : @ & = + $ , _ . ! ~ * ' ( ) [ ] %, which begins an escape
+-- word characters and some others; '%' begins an escape
 unfoldable pub is-uri : ℕ → Bool
 is-uri c =
     is-word c
     || among c
-    (35 ∷ 59 ∷ 47 ∷ 63 ∷ 58 ∷ 64 ∷ 38 ∷ 61 ∷ 43 ∷ 36 ∷ 44 ∷ 95 ∷ 46 ∷ 33 ∷ 126 ∷ 42 ∷ 39 ∷ 40 ∷ 41 ∷ 91 ∷ 93 ∷ 37 ∷ [])
+    ('#' ∷ semicolon ∷ slash ∷ '?' ∷ ':' ∷ at-sign ∷ '&' ∷ '=' ∷ '+' ∷ '$' ∷ comma ∷ underscore ∷ dot ∷ '!' ∷ '~' ∷ '*' ∷ single-quote ∷ open-parenthesis ∷ close-parenthesis ∷ '[' ∷ ']' ∷ '%' ∷ [])
 
 unfoldable pub is-tag : ℕ → Bool
 is-tag c = is-uri c && not (is-flow c) && not (eqb c '!')

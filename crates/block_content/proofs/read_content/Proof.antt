@@ -23,12 +23,13 @@ content-line-requires : tie.Need-content-line-requires Inv-loop μ-loop
 content-line-requires c κs = record { settles = c .before .before .before .before .before .before .loop .inv .settles; opens = rw (c .before .before .opens-content .ensures) at (c .before .if1 .taken) }
 
 loop-less : tie.Need-loop-less Inv-loop μ-loop
-loop-less c = let t = c .before .before .content-line .ensures in omega (arith, t .onward, t .settles .stands .within)
+loop-less c = let t = c .before .before .content-line .ensures in omega (arith, t .1, t .0 .settles .stands .within)
 
 loop-again : tie.Need-loop-again Inv-loop μ-loop
 loop-again c =
     going-more (c .before .before .before .before .before .before .before .before .before .loop .inv)
-    (c .before .before .content-line .kept .1 .1 .1 .0) (c .before .before .content-line .ensures)
+    (rw (c .before .before .before .before .before .opens-content .ensures) at (c .before .before .before .before .if1 .taken))
+    (c .before .before .content-line .kept .1 .1 .1 .0) (c .before .before .content-line .ensures .0)
 
 same-length : tie.Need-same-length Inv-loop μ-loop
 same-length c = c .before .before .before .before .before .loop .inv .size

@@ -1,6 +1,7 @@
 -- One case of the definition for each return.
 use denote.Ref.{now}
 use mathlib.Core.Path.{_∙_, sym}
+use Rattle.block_scalars.proofs.Scalars.{empty-lexed}
 use Rattle.block_scalars.proofs.Scans.{block-empty, block-low, block-some, lexes-as}
 use Rattle.reading.specs.Answers.{lexes-refused}
 use borrow.Author.Needs.{needs}
@@ -18,7 +19,7 @@ same-length c = search needs
 
 returns : tie.Need-returns
 returns c = let a = c .before .before .before .before .before .before .before .before .before .before .args in
-    lexes-as (c .before .before .empty-scalar .ensures (now (a .text)) (c .before .before .before .before .before .before .before .before .before .before .pre))
+    lexes-as (empty-lexed (a .k) (a .b) (a .g) (c .before .before .empty-scalar .ensures) (c .before .before .before .before .before .before .before .before .before .before .pre))
     (block-empty (now (a .text)) (a .k) (a .b) (a .g) (sym (c .before .before .before .before .before .ends-at .ensures) ∙ c .before .before .before .before .if1 .taken))
 
 opens-content-requires : tie.Need-opens-content-requires

@@ -1,6 +1,6 @@
 -- The text is line feeds alone, as many as the definition keeps.
 use mathlib.Core.Path.{refl}
-use Rattle.block_scalars.proofs.Scalars.{empty-lexed}
+use Rattle.block_scalars.proofs.Scalars.{empty-said}
 use borrow.Author.Needs.{needs}
 use Rattle.block_scalars.proofs.empty_scalar.Statement.{statement}
 use Rattle.block_scalars.proofs.empty_scalar.Tie as tie
@@ -19,9 +19,8 @@ same-length c = search needs
 
 returns : tie.Need-returns
 returns c =
-    λ text s.
     let a = c .before .before .before .before .before .before .before .before .before .before .before .before .args in
-    empty-lexed (a .k) (a .b) (a .g) (c .scalar .ensures) s (c .before .before .before .before .no-content .ensures) refl (c .before .before .before .put-breaks .ensures)
+    empty-said (a .k) (a .b) (a .g) (c .scalar .ensures) (c .before .before .before .before .no-content .ensures) refl (c .before .before .before .put-breaks .ensures)
 
 pub empty-scalar-spec : {M : Type 1} → statement M
 empty-scalar-spec =

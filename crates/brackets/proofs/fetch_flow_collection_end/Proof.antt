@@ -103,7 +103,7 @@ returns-4 c = λ n.
     let a = b .args in
     let y = b .pre .0 in
     rw (c .past .ensures, c .before .closing-kind .ensures, c .before .before .with-level .ensures)
-    (emits-to (l .level-data .result .implicit) true (y .stands) (b .pre .1) (past (line t)) (t .r2 .given .1) (closes (a .sequence)) (y .low) (omega (arith, y .deep)) (y .keys)
+    (emits-to (l .level-data .result .implicit) true (y .stands) (b .pre .1) (past (line t)) (t .r2 .given .1) (closes (a .sequence)) (y .low) (omega (arith, y .deep))
     (end-emits (a .sequence) (now (a .text)) (now (a .stacks)) (n .count) (a .s) (deep l .if1 .left) (l .level-data .ensures) (k .if2 .left))
     refl)
 

@@ -6,10 +6,10 @@ use denote.Ref.{now}
 use borrow.Author.Needs.{needs}
 use Rattle.yaml_text.specs.Pick.{pick}
 use Rattle.yaml_lexeme.specs.Token.{FlowMappingStart, FlowSequenceStart}
-use Rattle.states.specs.Answer.{fetch-refused, lent-kept}
+use Rattle.states.specs.Answer.{fetch-refused, lent-kept, ready-saves}
 use Rattle.brackets.specs.Emit.{emit-bracket}
 use Rattle.brackets.proofs.Emitted.{Past, emits-to, opens, past-index, stands-second}
-use Rattle.brackets.proofs.Levels.{ready-key, start-deep, start-emits, start-full, start-low, start-refused, start-state, start-words}
+use Rattle.brackets.proofs.Levels.{start-deep, start-emits, start-full, start-refused, start-state, start-words}
 use Rattle.brackets.proofs.fetch_flow_collection_start.Statement.{statement}
 use Rattle.brackets.proofs.fetch_flow_collection_start.Tie as tie
 
@@ -96,13 +96,13 @@ enum-known-r-2 : tie.Need-enum-known-r-2
 enum-known-r-2 c = search needs
 
 save-key-requires : tie.Need-save-key-requires
-save-key-requires c κs = ready-key (begin (line (c .before .before)) .pre .0)
+save-key-requires c κs = ready-saves (begin (line (c .before .before)) .pre .0)
 
 stack-bracket-requires : tie.Need-stack-bracket-requires
 stack-bracket-requires c κs = let k = c .before .before .before in let l = line (told k) in let p = begin l .pre .0 in
     record {
       room = room (fits l) .if1 .left;
-      low = k .save-key .ensures .entries .low _ _ _ (p .lent .entries-most) (p .low);
+      low = p .low;
       lent = lent-kept (k .save-key .kept .1 .1 .0) (p .lent);
     }
 
@@ -140,15 +140,13 @@ returns-4 c = let o = c .before .before .before .before .before .before .before 
     let b = start e in
     let a = b .args in
     let y = b .pre .0 in
-    let low = w .stack-bracket .ensures .low in
     rw (c .past .ensures, c .before .opening-kind .ensures, c .before .before .with-level .ensures, c .before .before .before .before .with-indents .ensures)
     (emits-to false false (y .stands) (b .pre .1) (past l) (t .r2 .given .1) (opens (a .sequence))
-    (o .open-level .ensures .entries .low _ _ _ (y .lent .entries-most) low)
+    (w .stack-bracket .ensures .low)
     (omega (arith, fits l .if2 .left))
-    (start-low (k .save-key .ensures) (w .stack-bracket .ensures) (o .open-level .ensures) (y .keys) (omega (arith, y .stands)))
     (start-emits (a .limits) (a .sequence) (now (a .text)) (now (a .stacks)) (a .n .count) (a .s) (e .needs-entry .ensures) (room (fits l) .if1 .left) (fits l .if2 .left)
     ∙ ap (emit-bracket (pick (a .sequence) FlowSequenceStart FlowMappingStart) false false)
-    (start-state (k .save-key .ensures) (w .stack-bracket .ensures) (o .open-level .ensures) (omega (arith, low .deep, y .lent .entries-most)) (now (a .text))))
+    (start-state (k .save-key .ensures) (w .stack-bracket .ensures) (o .open-level .ensures) (omega (arith, w .stack-bracket .ensures .low .deep, y .lent .entries-most)) (now (a .text))))
     (start-words (k .save-key .ensures) (w .stack-bracket .ensures) (o .open-level .ensures) (e .needs-entry .ensures)))
 
 pub fetch-flow-collection-start-spec : {M : Type 1} → statement M

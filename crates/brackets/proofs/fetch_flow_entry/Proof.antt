@@ -4,10 +4,9 @@ use mathlib.Core.Path.{refl}
 use native.Mathlib.Omega.{arith}
 use denote.Ref.{now}
 use borrow.Author.Needs.{needs}
-use Rattle.states.specs.Answer.{fetch-refused}
-use Rattle.states.specs.Seen.{low-level}
+use Rattle.states.specs.Answer.{fetch-refused, ready-key}
 use Rattle.brackets.proofs.Emitted.{Past, comma, emits-to, past-index, stands-second}
-use Rattle.brackets.proofs.Levels.{entry-goes, entry-refused, entry-words-left, ready-key}
+use Rattle.brackets.proofs.Levels.{entry-goes, entry-refused, entry-words-left}
 use Rattle.brackets.proofs.fetch_flow_entry.Statement.{statement}
 use Rattle.brackets.proofs.fetch_flow_entry.Tie as tie
 
@@ -80,9 +79,8 @@ returns-2 c = λ n.
     let y = b .pre .0 in
     rw (c .past .ensures)
     (emits-to (l .level-data .result .implicit) false (y .stands) (b .pre .1) (past (line t)) (t .r2 .given .1) comma
-    (v .set-level .ensures .entries .low _ _ _ (y .lent .entries-most) (k .remove-key .ensures .sets .entries .low _ _ _ (y .lent .entries-most) (y .low)))
+    (y .low)
     (y .deep)
-    (low-level (v .set-level .ensures) (k .remove-key .ensures .low (y .keys)))
     (entry-goes (k .remove-key .ensures) (l .level-data .ensures) (v .set-level .ensures) (v .before .new-level .ensures) (ready-key y .1) (b .pre .2) (now (b .args .text)) (n .count))
     (entry-words-left (k .remove-key .ensures) (l .level-data .ensures) (v .set-level .ensures) (v .before .new-level .ensures)))
 

@@ -1,5 +1,4 @@
 -- One entry more, for which there is room, or none.
-use native.Mathlib.Omega.{arith}
 use borrow.Author.Needs.{needs}
 use Rattle.brackets.proofs.Entry.{entry-most, stacks-none, stacks-one}
 use Rattle.brackets.proofs.stack_bracket.Statement.{statement}
@@ -11,7 +10,7 @@ add-push c = search needs
 push-requires : tie.Need-push-requires
 push-requires c κs =
     let p = c .before .before .before .before .before .pre in
-    (entry-most p (c .before .before .if1 .taken), p .lent .room, omega (arith, p .low, p .lent))
+    (entry-most p (c .before .before .if1 .taken), p .low .indent, p .lent .room)
 
 same-length : tie.Need-same-length
 same-length c = search needs

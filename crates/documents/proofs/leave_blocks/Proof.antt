@@ -14,7 +14,7 @@ same-length : tie.Need-same-length
 same-length c = search needs
 
 returns : tie.Need-returns
-returns c = leaves (c .before .before .before .before .before .before .before .pre .1) (c .before .before .before .before .unroll .ensures) (c .before .before .remove-key .ensures)
+returns c = leaves (c .before .before .before .before .before .before .before .pre .1 .deep) (c .before .before .before .before .unroll .ensures) (c .before .before .remove-key .ensures)
 
 pub leave-blocks-spec : {M : Type 1} → statement M
 leave-blocks-spec =

@@ -1,4 +1,4 @@
--- `gaps::blanks_and_comment` meets its contract: what follows the blanks is told by the byte there.
+-- What follows the blanks is told by the byte there.
 use mathlib.Core.Path.{_∙_, _≡_, ap, refl, sym}
 use lib.ListN.{drop}
 use borrow.Author.Tests.{eq-eqb, ne-eqb}

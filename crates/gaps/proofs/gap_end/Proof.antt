@@ -1,4 +1,4 @@
--- `gaps::gap_end` meets its contract: one clause of the definition for each of what may stand before.
+-- One clause of the definition for each of what may stand before.
 use mathlib.Core.Bool.{false, true}
 use mathlib.Core.Path.{refl}
 use Rattle.yaml_lexeme.specs.declared.Before.the-variants.{AfterText, Leading, Spaced}

@@ -1,4 +1,4 @@
--- `gaps::is_low` meets its contract: it is the definition, test by test.
+-- It is the definition, test by test.
 use Rattle.gaps.specs.Line.{is-low}
 use borrow.Author.Needs.{needs}
 use Rattle.gaps.proofs.is_low.Statement.{statement}

@@ -1,4 +1,4 @@
--- `gaps::low_run` meets its contract. The count so far and the run that is left make the whole run.
+-- The count so far and the run that is left make the whole run.
 use denote.Ref.{now}
 use Prim.Native.Nat.{_+_, _-_}
 use mathlib.Core.Path.{_∙_, _≡_, sym}

@@ -1,4 +1,4 @@
--- `gaps::on_blank` meets its contract: one clause of the definition for each return.
+-- One clause of the definition for each return.
 use borrow.Author.Tests.{eq-eqb, ne-eqb}
 use Rattle.yaml_lexeme.specs.Gap.{on-blank}
 use borrow.Author.Needs.{needs}

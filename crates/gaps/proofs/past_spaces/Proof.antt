@@ -1,4 +1,4 @@
--- `gaps::past_spaces` meets its contract. The invariant: only spaces were passed.
+-- The invariant: only spaces were passed.
 use Prim.Native.Nat.{_-_}
 use native.Mathlib.Omega.{arith}
 use lib.ListN.{length}
@@ -7,7 +7,7 @@ use borrow.Author.Tests.{eq-eqb}
 use Rattle.yaml_text.specs.Char.{space}
 use Rattle.chars.specs.Blocks.{is-space}
 use Rattle.chars.specs.Each.{Each, each-none, each-one, each-then}
-use Rattle.gaps.specs.Spaces.{spaces-over, spaces-past}
+use Rattle.gaps.specs.Spaces.{spaces-over, spaces-past, tries-each}
 use Rattle.gaps.proofs.past_spaces.Statement.{statement}
 use Rattle.gaps.proofs.past_spaces.Tie as tie
 
@@ -33,13 +33,16 @@ past-some-spaces-requires : tie.Need-past-some-spaces-requires Inv-loop μ-loop
 past-some-spaces-requires c κs = search needs
 
 loop-less : tie.Need-loop-less Inv-loop μ-loop
-loop-less c = omega (arith, c .past-some-spaces .ensures, c .before .before .before .loop-test .taken)
+loop-less c =
+    let h = c .before .before .before .loop-test .taken in
+    omega (arith, tries-each (omega (arith, h)) (c .past-some-spaces .ensures), h)
 
 loop-again : tie.Need-loop-again Inv-loop μ-loop
 unfolding is-space
 loop-again c =
-    let one = each-one (c .before .before .before .loop-test .taken) (eq-eqb _ space (c .before .if1 .left)) in
-    each-then (c .before .before .before .before .loop .inv) (each-then one (c .past-some-spaces .ensures))
+    let h = c .before .before .before .loop-test .taken in
+    let one = each-one h (eq-eqb _ space (c .before .if1 .left)) in
+    each-then (c .before .before .before .before .loop .inv) (each-then one (tries-each (omega (arith, h)) (c .past-some-spaces .ensures)))
 
 returns-2 : tie.Need-returns-2 Inv-loop μ-loop
 returns-2 c = spaces-past (c .before .loop .inv) (c .loop-test .left)

@@ -1,4 +1,4 @@
--- `gaps::run_to_break` meets its contract: the line from here on is what is left of the line.
+-- The line from here on is what is left of the line.
 use Prim.Native.Nat.{_-_, _≤_, ℕ}
 use mathlib.Core.List.{List}
 use mathlib.Core.Path.{_∙_, sym}

@@ -1,4 +1,4 @@
--- `gaps::skip_blanks` meets its contract: the blanks from here on are what is left of those from the start.
+-- The blanks from here on are what is left of those from the start.
 use denote.Ref.{now}
 use mathlib.Core.Bool.{true}
 use mathlib.Core.Path.{_∙_, _≡_, sym}

@@ -1,4 +1,4 @@
--- `gaps::skip_gap` meets its contract: the gap from here on, behind what stands before it, is what is left of the gap.
+-- The gap from here on, behind what stands before it, is what is left of the gap.
 use Prim.Native.Nat.{_-_, _<_, _≤_, ℕ}
 use mathlib.Core.Bool.{true}
 use mathlib.Core.List.{List, [], _∷_}

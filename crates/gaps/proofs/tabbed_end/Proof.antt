@@ -1,4 +1,4 @@
--- `gaps::tabbed_end` meets its contract: a token stands here just where a character does.
+-- A token stands here just where a character does.
 use mathlib.Core.Path.{_∙_, sym}
 use denote.Ref.{now}
 use Rattle.chars.specs.Bytes.{char-at, none-end, none-ill}

@@ -1,4 +1,4 @@
--- `gaps::to_break` meets its contract: the place behind the line.
+-- The run that `run_to_break` passes over is the definition's, and so is the place behind it.
 use borrow.Author.Needs.{needs}
 use Rattle.chars.specs.Places.{moves-as}
 use Rattle.gaps.specs.Line.{line-place}

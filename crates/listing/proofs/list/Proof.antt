@@ -4,7 +4,7 @@ use denote.Ref.{now}
 use borrow.Author.Needs.{needs}
 use Rattle.printing.specs.Listing.{sheet}
 use Rattle.printing.specs.Rooms.{in-rooms}
-use Rattle.scanner.specs.Promise.{at-most}
+use Rattle.stacks.specs.Most.{at-most}
 use Rattle.listing.proofs.Answered.{answered-lines}
 use Rattle.listing.proofs.list.Statement.{statement}
 use Rattle.listing.proofs.list.Tie as tie

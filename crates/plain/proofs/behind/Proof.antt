@@ -1,4 +1,4 @@
--- `plain::behind` meets its contract: the bytes on the way, less those that are no characters of their own, are as many as the characters.
+-- The bytes on the way, less those that are no characters of their own, are as many as the characters.
 use Prim.Native.Nat.{_+_, _-_}
 use mathlib.Core.Path.{_∙_, _≡_}
 use native.Mathlib.Omega.{arith}

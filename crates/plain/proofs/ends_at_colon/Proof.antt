@@ -1,4 +1,4 @@
--- `plain::ends_at_colon` meets its contract: it is the definition, test by test.
+-- It is the definition, test by test.
 use Rattle.plain.specs.Text.{ends-at-colon}
 use borrow.Author.Needs.{needs}
 use Rattle.plain.proofs.ends_at_colon.Statement.{statement}

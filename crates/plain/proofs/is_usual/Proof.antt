@@ -1,4 +1,4 @@
--- `plain::is_usual` meets its contract: it is the definition, test by test.
+-- It is the definition, test by test.
 use borrow.Author.Needs.{needs}
 use Rattle.plain.specs.Text.{usual}
 use Rattle.plain.proofs.is_usual.Statement.{statement}

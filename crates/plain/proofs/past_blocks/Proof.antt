@@ -1,22 +1,22 @@
--- `plain::past_blocks` meets its contract: the invariant: only ordinary bytes were passed.
+-- The invariant: only ordinary bytes were passed.
 use Prim.Native.Nat.{_-_}
 use mathlib.Core.Path.{_∙_, sym}
 use native.Mathlib.Omega.{arith}
 use lib.ListN.{length}
 use borrow.Author.Needs.{needs}
 use Rattle.chars.specs.Blocks.{ordinary}
-use Rattle.chars.specs.Each.{Each, each-block, each-none, each-then}
+use Rattle.chars.specs.Each.{SomeBlocks, blocks-end, blocks-more, blocks-out, each-none}
 use Rattle.plain.proofs.past_blocks.Statement.{statement}
 use Rattle.plain.proofs.past_blocks.Tie as tie
 
 abbrev Inv-loop : tie.InvT-loop
-Inv-loop text start at₀ at = Each ordinary text start at
+Inv-loop text start at₀ at = SomeBlocks ordinary text start at
 
 abbrev μ-loop : tie.MeasureT-loop
 μ-loop text start at₀ at = length text - at
 
 loop-holds : tie.Need-loop-holds Inv-loop μ-loop
-loop-holds c = each-none (c .before .pre)
+loop-holds c = (each-none (c .before .pre), omega arith)
 
 add-loop : tie.Need-add-loop Inv-loop μ-loop
 add-loop c = search needs
@@ -43,13 +43,13 @@ loop-less : tie.Need-loop-less Inv-loop μ-loop
 loop-less c = search needs
 
 loop-again : tie.Need-loop-again Inv-loop μ-loop
-loop-again c = each-then (c .before .before .before .before .loop .inv) (each-block (omega arith) (c .before .before .before .loop-test .taken) (sym (c .before .all-of .ensures) ∙ c .if1 .taken))
+loop-again c = blocks-more (c .before .before .before .before .loop .inv) (c .before .before .before .loop-test .taken) (sym (c .before .all-of .ensures) ∙ c .if1 .taken)
 
 returns : tie.Need-returns Inv-loop μ-loop
-returns c = c .before .before .before .before .loop .inv
+returns c = blocks-end (c .before .before .before .before .loop .inv) (sym (c .before .all-of .ensures) ∙ c .if1 .left)
 
 returns-2 : tie.Need-returns-2 Inv-loop μ-loop
-returns-2 c = c .before .loop .inv
+returns-2 c = blocks-out (c .before .loop .inv) (c .loop-test .left)
 
 pub past-blocks-spec : {M : Type 1} → statement M
 past-blocks-spec =

@@ -1,4 +1,4 @@
--- `plain::scan_plain_scalar` meets its contract: the first character is text whatever it is, and `text_end` tells the rest.
+-- The first character is text whatever it is, and `text_end` tells the rest.
 use mathlib.Core.Path.{_∙_, _≡_, ap, sym}
 use lib.Seq.{length-take-le}
 use denote.Ref.{now}

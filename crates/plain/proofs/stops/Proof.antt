@@ -1,4 +1,4 @@
--- `plain::stops` meets its contract: each way out is one test of the definition, the others having failed.
+-- Each way out is one test of the definition, the others having failed.
 use mathlib.Core.Path.{_∙_, sym}
 use Rattle.plain.proofs.Ends.{stop-colon, stop-flow, stop-hash, stop-other}
 use borrow.Author.Needs.{needs}

@@ -1,4 +1,4 @@
--- `plain::text_end` meets its contract: the invariant: the text so far, with what is left of it, is the whole text.
+-- The invariant: the text so far, with what is left of it, is the whole text.
 use Prim.Native.Nat.{_-_}
 use mathlib.Core.Path.{_∙_, sym}
 use native.Mathlib.Omega.{arith}
@@ -18,7 +18,7 @@ past-blocks-requires : tie.Need-past-blocks-requires Inv-loop μ-loop
 past-blocks-requires c κs = search needs
 
 loop-holds : tie.Need-loop-holds Inv-loop μ-loop
-loop-holds c = on-run (on-start _ _ _ (c .before .before .pre .within)) (c .past-blocks .ensures)
+loop-holds c = on-run (on-start _ _ _ (c .before .before .pre .within)) (c .past-blocks .ensures .each)
 
 byte-requires : tie.Need-byte-requires Inv-loop μ-loop
 byte-requires c κs = search needs

@@ -1,4 +1,4 @@
--- `plain::text_length` meets its contract: each way out is one case of the byte there.
+-- Each way out is one case of the byte there.
 use mathlib.Core.Path.{_∙_, sym}
 use Rattle.plain.proofs.Ends.{high-goes, high-stops, low-goes, low-stops, none-length, usual-goes}
 use borrow.Author.Needs.{needs}

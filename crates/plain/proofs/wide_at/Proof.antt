@@ -1,4 +1,4 @@
--- `plain::wide_at` meets its contract: a character is as long as its lead byte tells.
+-- A character is as long as its lead byte tells.
 use Prim.Native.Nat.{_<_, ℕ}
 use mathlib.Core.Path.{_∙_, _≡_, ap}
 use native.Mathlib.Omega.{arith}

@@ -30,16 +30,16 @@ got-requires : tie.Need-got-requires
 got-requires c κs = search needs
 
 returns : tie.Need-returns
-returns c = follows-got _ _ (c .before .before .before .before .before .before .before .before .before .before .before .before .before .blanks-and-comment .ensures) (c .before .before .before .before .before .before .before .before .before .before .before .r2 .given .1) (c .before .before .before .before .before .look .ensures) (c .before .before .before .before .fits-after .ensures) (c .before .before .before .if1 .taken) (c .before .before .before .before .before .before .before .before .before .before .before .before .before .before .before .pre .1) (c .before .before .before .before .before .before .before .before .before .before .before .before .before .before .before .pre .2) (c .before .before .before .before .before .before .before .before .before .before .before .before .before .before .before .pre .3) (c .got .ensures ∙ rw (c .before .before .quoted-style .ensures, c .before .text-at .ensures))
+returns c = follows-got _ _ _ _ (c .before .before .before .before .before .before .before .before .before .before .before .before .before .blanks-and-comment .ensures) (c .before .before .before .before .before .before .before .before .before .before .before .r2 .given .1) (c .before .before .before .before .before .look .ensures) (c .before .before .before .before .fits-after .ensures) (c .before .before .before .if1 .taken) (c .before .before .before .before .before .before .before .before .before .before .before .before .before .before .before .pre .1) (c .before .before .before .before .before .before .before .before .before .before .before .before .before .before .before .pre .2) (c .got .ensures ∙ rw (c .before .before .quoted-style .ensures, c .before .text-at .ensures))
 
 refuse-requires : tie.Need-refuse-requires
 refuse-requires c κs = search needs
 
 returns-2 : tie.Need-returns-2
-returns-2 c = λ t _. follows-stuck _ _ (c .before .before .before .blanks-and-comment .ensures) (c .before .r .given .1) refl t
+returns-2 c = follows-stuck _ _ _ _ (c .before .before .before .blanks-and-comment .ensures) (c .before .r .given .1) refl
 
 returns-3 : tie.Need-returns-3
-returns-3 c = λ t _. follows-wrong _ _ (c .before .before .before .before .before .before .before .before .before .before .before .blanks-and-comment .ensures) (c .before .before .before .before .before .before .before .before .before .r2 .given .1) (c .before .before .before .look .ensures) (c .before .before .fits-after .ensures) (c .before .if1 .left) (c .refuse .ensures) t
+returns-3 c = follows-wrong _ _ _ _ (c .before .before .before .before .before .before .before .before .before .before .before .blanks-and-comment .ensures) (c .before .before .before .before .before .before .before .before .before .r2 .given .1) (c .before .before .before .look .ensures) (c .before .before .fits-after .ensures) (c .before .if1 .left) (c .refuse .ensures)
 
 pub after-quote-spec : {M : Type 1} → statement M
 after-quote-spec =

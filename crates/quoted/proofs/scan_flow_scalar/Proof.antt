@@ -1,6 +1,5 @@
 -- The run up to the closing quote, then what follows it; a refusal of either leaves the room cleared.
 use mathlib.Core.Path.{refl}
-use native.Mathlib.Omega.{arith}
 use Rattle.quoted.proofs.Finish.{scan-closed, scan-refused}
 use borrow.Author.Needs.{needs}
 use Rattle.quoted.proofs.scan_flow_scalar.Statement.{statement}
@@ -15,7 +14,7 @@ enum-known-r c = search needs
 after-quote-requires : tie.Need-after-quote-requires
 after-quote-requires c κs =
     let b = rw (c .before .r .given .1) at (c .before .before .before .before .before .quoted-run .ensures .behind) in
-    (b .0, b .1, b .2, omega (arith, c .before .before .before .before .before .before .before .before .before .pre .0 .given .stands .index))
+    (b .0, b .1, b .2)
 
 clear-refused-requires : tie.Need-clear-refused-requires
 clear-refused-requires c κs = search needs

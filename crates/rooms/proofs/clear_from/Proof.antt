@@ -1,4 +1,4 @@
--- `rooms::clear_from` meets its contract: the invariant: clearing from here on gives what clearing the whole gives.
+-- The invariant: clearing from here on gives what clearing the whole gives.
 use Prim.Native.Nat.{_-_}
 use mathlib.Core.Path.{refl}
 use lib.ListN.{length}

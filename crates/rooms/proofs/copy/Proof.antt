@@ -1,4 +1,4 @@
--- `rooms::copy` meets its contract: the invariant: what is left of the text, stored behind what was copied, gives the whole.
+-- The invariant: what is left of the text, stored behind what was copied, gives the whole.
 use Prim.Native.Nat.{_+_, _-_}
 use mathlib.Core.Path.{_∙_, _≡_, refl, sym}
 use native.Mathlib.Nat.{add-zero}

@@ -1,4 +1,4 @@
--- `rooms::put` meets its contract: a store within the room, and none past it.
+-- A store within the room, and none past it.
 use mathlib.Core.Path.{sym}
 use lib.Seq.{set-out}
 use denote.Ref.{now}

@@ -1,4 +1,4 @@
--- `rooms::put_char` meets its contract: the bytes of each length are those of the definition, stored one behind the other.
+-- The bytes of each length are those of the definition, stored one behind the other.
 use mathlib.Core.List.{[], _∷_}
 use denote.Ref.{now}
 use borrow.Author.Needs.{needs}

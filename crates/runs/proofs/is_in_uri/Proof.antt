@@ -1,4 +1,4 @@
--- `runs::is_in_uri` meets its contract: the test of the one class or of the other.
+-- The test of the one class or of the other.
 use borrow.Author.Needs.{needs}
 use Rattle.runs.proofs.is_in_uri.Statement.{statement}
 use Rattle.runs.proofs.is_in_uri.Tie as tie

@@ -1,4 +1,4 @@
--- `runs::is_of` meets its contract: each arm has the test of its class.
+-- Each arm has the test of its class.
 use borrow.Author.Needs.{needs}
 use Rattle.runs.proofs.is_of.Statement.{statement}
 use Rattle.runs.proofs.is_of.Tie as tie

@@ -1,4 +1,4 @@
--- `runs::put_one` meets its contract: the three answers to a character: itself, the one that its escape is, a refusal.
+-- The three answers to a character: itself, the one that its escape is, a refusal.
 use mathlib.Core.Path.{_∙_, ap, refl}
 use denote.Ref.{now}
 use borrow.Author.Needs.{needs}

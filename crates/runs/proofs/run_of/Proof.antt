@@ -1,4 +1,4 @@
--- `runs::run_of` meets its contract: the invariant: what was passed, with the run that is left, is the whole run.
+-- The invariant: what was passed, with the run that is left, is the whole run.
 use Prim.Native.Nat.{_-_, ℕ}
 use mathlib.Core.List.{List}
 use mathlib.Core.Path.{_∙_, sym}

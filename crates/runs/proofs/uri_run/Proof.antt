@@ -1,4 +1,4 @@
--- `runs::uri_run` meets its contract: the invariant: what was written, with the run that is left, is the whole run.
+-- The invariant: what was written, with the run that is left, is the whole run.
 use Prim.Native.Nat.{_-_}
 use mathlib.Core.Bool.{true}
 use mathlib.Core.Path.{_∙_, _≡_, sym}

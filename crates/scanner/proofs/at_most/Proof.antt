@@ -1,6 +1,6 @@
 -- The smaller of two numbers, by the test.
 use borrow.Author.Tests.{le-ltb, lt-ltb}
-use Rattle.scanner.specs.Promise.{at-most}
+use Rattle.stacks.specs.Most.{at-most}
 use Rattle.scanner.proofs.at_most.Statement.{statement}
 use Rattle.scanner.proofs.at_most.Tie as tie
 

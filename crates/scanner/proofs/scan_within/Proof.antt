@@ -41,6 +41,15 @@ lent-requires c κs =
     let a = start (known k) .args in
     settles (a .limits) (now (a .text)) (scanned k) (known k .outcome .kept .1 .1 .0)
 
+enum-told : tie.Need-enum-told
+enum-told c = search needs
+
+outside-requires : tie.Need-outside-requires
+outside-requires c κs = search needs
+
+refused-requires-2 : tie.Need-refused-requires-2
+refused-requires-2 c κs = search needs
+
 same-length : tie.Need-same-length
 same-length c = search needs
 
@@ -66,6 +75,16 @@ returns-2 c =
     let kept = known k .outcome .kept .1 .1 in
     c .before .before .before .before .lent .ensures ∙ answered (a .limits) (now (a .text)) (scanned k) (kept .0) (kept .1 .0)
 
+same-length-5 : tie.Need-same-length-5
+same-length-5 c = search needs
+
+same-length-6 : tie.Need-same-length-6
+same-length-6 c = search needs
+
+-- a run never pauses
+returns-3 : tie.Need-returns-3
+returns-3 c = absurd (rw (c .before .before .before .before .before .before .before .before .enum-told .given .1) at (c .before .before .before .before .before .before .before .before .before .before .before .before .before .before .outcome .ensures))
+
 pub scan-within-spec : {M : Type 1} → statement M
 scan-within-spec =
     tie.close
@@ -75,9 +94,15 @@ scan-within-spec =
     refused-requires
     enum-known-o-2
     lent-requires
+    enum-told
+    outside-requires
+    refused-requires-2
     same-length
     same-length-2
     returns
     same-length-3
     same-length-4
-    returns-2)
+    returns-2
+    same-length-5
+    same-length-6
+    returns-3)

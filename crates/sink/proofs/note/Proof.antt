@@ -30,28 +30,28 @@ put-note-requires-3 c κs = search needs
 
 returns : tie.Need-returns
 unfolding noted-words
-returns c = noted (now (c .before .before .before .args .words)) refl (c .enum-told .given .1)
+returns c = let a = c .before .before .before .args in noted (a .base) (now (a .words)) refl (c .enum-told .given .1)
 
 same-length : tie.Need-same-length
 same-length c = search needs
 
 returns-2 : tie.Need-returns-2
 unfolding noted-words
-returns-2 c = let b = c .before .before .before .before .before in noted (now (b .before .before .before .args .words)) (c .before .before .put-note .ensures) (b .n .given .1)
+returns-2 c = let b = c .before .before .before .before .before in let a = b .before .before .before .args in noted (a .base) (now (a .words)) (c .before .before .put-note .ensures) (b .n .given .1)
 
 same-length-2 : tie.Need-same-length-2
 same-length-2 c = search needs
 
 returns-3 : tie.Need-returns-3
 unfolding noted-words
-returns-3 c = let b = c .before .before .before .before .before in noted (now (b .before .before .before .args .words)) (c .before .before .put-note2 .ensures) (b .n2 .given .1)
+returns-3 c = let b = c .before .before .before .before .before in let a = b .before .before .before .args in noted (a .base) (now (a .words)) (c .before .before .put-note2 .ensures) (b .n2 .given .1)
 
 same-length-3 : tie.Need-same-length-3
 same-length-3 c = search needs
 
 returns-4 : tie.Need-returns-4
 unfolding noted-words
-returns-4 c = let b = c .before .before .before .before .before in noted (now (b .before .before .before .args .words)) (c .before .before .put-note3 .ensures) (b .n3 .given .1)
+returns-4 c = let b = c .before .before .before .before .before in let a = b .before .before .before .args in noted (a .base) (now (a .words)) (c .before .before .put-note3 .ensures) (b .n3 .given .1)
 
 pub note-spec : {M : Type 1} → statement M
 note-spec =

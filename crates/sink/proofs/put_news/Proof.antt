@@ -1,6 +1,7 @@
 -- The ends come first, then the note, then the tokens of the event behind the ends.
 use denote.Ref.{now}
 use borrow.Author.Needs.{needs}
+use Rattle.sink.specs.StepTokens.{shifted}
 use Rattle.sink.proofs.Storing.{news-put}
 use Rattle.sink.proofs.put_news.Statement.{statement}
 use Rattle.sink.proofs.put_news.Tie as tie
@@ -22,7 +23,7 @@ returns c =
     let noted = c .before .before .before .before .before .before in
     let ends = noted .before .before .before .before in
     let a = ends .before .before .before .args in
-    news-put (a .e) (a .here) (a .ended) (now (a .words)) _ _ _ (a .n) _ (ends .put-ends .ensures .0) (ends .put-ends .ensures .1) (noted .note .ensures) (c .before .before .put-event .ensures)
+    news-put (shifted (a .base) (a .e)) (a .here) (a .ended) (now (a .words)) _ _ _ (a .n) _ (ends .put-ends .ensures .0) (ends .put-ends .ensures .1) (noted .note .ensures) (c .before .before .put-event .ensures)
 
 pub put-news-spec : {M : Type 1} → statement M
 put-news-spec =

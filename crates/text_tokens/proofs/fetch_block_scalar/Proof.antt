@@ -2,6 +2,7 @@
 use mathlib.Core.Bool.{true}
 use denote.Ref.{now}
 use Rattle.yaml_scan.specs.Fetch.{fetch-block-scalar}
+use Rattle.stacks.proofs.Entries.{low-below}
 use Rattle.text_tokens.proofs.Read.{lit, low-indent, saving}
 use Rattle.text_tokens.proofs.Saved.{block-goes, block-tells, in-block, saved}
 use borrow.Author.Needs.{needs}
@@ -33,7 +34,7 @@ part-scan-block-scalar-end-2 : tie.Need-part-scan-block-scalar-end-2
 part-scan-block-scalar-end-2 c = search needs
 
 scan-block-scalar-requires : tie.Need-scan-block-scalar-requires
-scan-block-scalar-requires c κs = let b = c .before .before .before .before .before .before .before .before in (lit (b .pre .0 .stands) (b .pre .2) (b .pre .1), low-indent (b .pre .0) (c .before .before .drop-non-ending .ensures .below .low _ _ (b .pre .0 .low)))
+scan-block-scalar-requires c κs = let b = c .before .before .before .before .before .before .before .before in (lit (b .pre .0 .stands) (b .pre .2) (b .pre .1), low-indent (b .pre .0) (low-below (b .pre .0 .low) (c .before .before .drop-non-ending .ensures .below)))
 
 with-indents-requires : tie.Need-with-indents-requires
 with-indents-requires c κs = search needs
@@ -58,7 +59,7 @@ returns c =
     let k = c .before .before .before .before .before .before .before .scan-block-scalar in
     let g = c .before .before .fetched .ensures in
     rw (g .1, c .before .before .before .before .with-indents .ensures)
-    (saved (now (a .bytes)) (λ t. fetch-block-scalar (a .literal) t) (in-block (now (a .stacks)) (i .result)) (i .result) true true (λ m. a .s .«adjacent_value_allowed_at») (c .before .before .before .before .before .before .before .before .before .before .before .before .unused-from .ensures) (b .pre .0) (i .ensures .below .low) (block-goes (now (a .text)) (now (a .stacks)) (a .n .count) (a .s) (i .ensures) (b .pre .0)) (k .result) (k .ensures) (block-tells (now (a .text)) (now (a .stacks)) (a .n .count) (a .s) (i .ensures) (a .literal)) (g .0))
+    (saved (now (a .bytes)) (λ t. fetch-block-scalar (a .literal) t) (in-block (now (a .stacks)) (i .result)) (i .result) true true (λ m. a .s .«adjacent_value_allowed_at») (c .before .before .before .before .before .before .before .before .before .before .before .before .unused-from .ensures) (b .pre .0) (low-below (b .pre .0 .low) (i .ensures .below)) (block-goes (now (a .text)) (now (a .stacks)) (a .n .count) (a .s) (i .ensures) (b .pre .0)) (k .result) (k .ensures) (block-tells (now (a .text)) (now (a .stacks)) (a .n .count) (a .s) (i .ensures) (a .literal)) (g .0))
 
 pub fetch-block-scalar-spec : {M : Type 1} → statement M
 fetch-block-scalar-spec =

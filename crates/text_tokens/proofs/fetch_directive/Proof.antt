@@ -1,6 +1,7 @@
 -- The reader answers as the definition's does; then all blocks are left.
 use denote.Ref.{now}
 use borrow.Author.Needs.{needs}
+use Rattle.stacks.proofs.Entries.{low-most}
 use Rattle.text_tokens.proofs.Left.{left}
 use Rattle.text_tokens.proofs.Read.{lit, saving}
 use Rattle.text_tokens.proofs.fetch_directive.Statement.{statement}
@@ -33,8 +34,9 @@ scan-directive-requires c κs = let b = c .before .before .before .before .befor
 fetched-left-requires : tie.Need-fetched-left-requires
 fetched-left-requires c κs =
     let k = c .before .before .before .scan-directive in
-    let g = saving (c .before .before .before .before .before .before .before .before .before .before .pre .0) (search needs) (k .result) (k .ensures .ahead) in
-    (g .0, g .1, g .2, g .3)
+    let y = c .before .before .before .before .before .before .before .before .before .before .pre .0 in
+    let g = saving y (search needs) (k .result) (k .ensures .ahead) in
+    (g .0, g .1, low-most (y .lent .entries-most) (y .low), g .3)
 
 same-length : tie.Need-same-length
 same-length c = search needs

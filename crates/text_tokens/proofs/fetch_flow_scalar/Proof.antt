@@ -53,7 +53,7 @@ returns c =
     let k = c .before .before .before .before .before .before .scan-flow-scalar in
     let g = c .before .before .fetched-quoted .ensures in
     rw (g .1)
-    (saved (now (a .bytes)) (λ t. fetch-flow-scalar (a .single) t) (λ l v. adjacent-here (going false l v)) (a .s .indents) false false (λ m. m .index + 1) (c .before .before .before .before .before .before .before .before .before .before .unused-from .ensures) (b .pre .0) (λ _ _ l. l) (λ q l. refl) (k .result) (k .ensures) (flow-tells (now (a .text)) (now (a .stacks)) (a .n .count) (a .s) (a .single)) (g .0))
+    (saved (now (a .bytes)) (λ t. fetch-flow-scalar (a .single) t) (λ l v. adjacent-here (going false l v)) (a .s .indents) false false (λ m. m .index + 1) (c .before .before .before .before .before .before .before .before .before .before .unused-from .ensures) (b .pre .0) (b .pre .0 .low) (λ q l. refl) (k .result) (k .ensures) (flow-tells (now (a .text)) (now (a .stacks)) (a .n .count) (a .s) (a .single)) (g .0))
 
 pub fetch-flow-scalar-spec : {M : Type 1} → statement M
 fetch-flow-scalar-spec =

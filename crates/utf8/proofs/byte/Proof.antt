@@ -1,4 +1,4 @@
--- `utf8::byte` meets its contract: past the end the definition has 0 too.
+-- Past the end the definition has 0 too.
 use mathlib.Core.Path.{sym}
 use lib.ListN.{List·getD-eq-default}
 use denote.Ref.{now}

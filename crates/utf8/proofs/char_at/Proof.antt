@@ -1,4 +1,4 @@
--- `utf8::char_at` meets its contract: nothing past the end, a byte below 128 is a character, the rest is `long_char`'s.
+-- Nothing past the end, a byte below 128 is a character, the rest is `long_char`'s.
 use mathlib.Core.Path.{sym}
 use denote.Ref.{now}
 use borrow.Author.Needs.{needs}

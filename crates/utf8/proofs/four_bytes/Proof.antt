@@ -1,4 +1,4 @@
--- `utf8::four_bytes` meets its contract: each way out says what the tests of `four` came to.
+-- Each way out says what the tests of `four` came to.
 use mathlib.Core.Bool.{true}
 use mathlib.Core.Path.{_∙_, _≡_, sym}
 use borrow.Author.Needs.{needs}

@@ -1,4 +1,4 @@
--- `utf8::is_scalar` meets its contract, test by test.
+-- It is the definition, test by test.
 use Prim.Native.Nat.{_<_}
 use native.Mathlib.Omega.{arith}
 use borrow.Author.Needs.{needs}

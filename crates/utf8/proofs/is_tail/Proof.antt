@@ -1,4 +1,4 @@
--- `utf8::is_tail` meets its contract, test by test.
+-- It is the definition, test by test.
 use borrow.Author.Needs.{needs}
 use Rattle.yaml_text.specs.Utf8.{is-tail}
 use Rattle.utf8.proofs.Cases.{cases}

@@ -1,4 +1,4 @@
--- `utf8::lead_len` meets its contract: at each of the 256 bytes the count of leading ones says the length, which antt computes.
+-- At each of the 256 bytes the count of leading ones says the length, which antt computes.
 use Prim.Native.Nat.{_-_, _<_, suc, zero, ℕ}
 use mathlib.Core.Bool.{Bool}
 use mathlib.Core.Path.{_∙_, _≡_, ap, refl, sym}

@@ -1,4 +1,4 @@
--- `utf8::long_char` meets its contract: each way out is one case of `by-len`, at the bytes that were read.
+-- Each way out is one case of `by-len`, at the bytes that were read.
 use Prim.Native.Nat.{ℕ}
 use mathlib.Core.List.{List}
 use denote.Ref.{now}

@@ -1,4 +1,4 @@
--- `utf8::look` meets its contract: what stands first is the first character, or there is none.
+-- What stands first is the first character, or there is none.
 use Prim.Native.Nat.{ℕ}
 use mathlib.Core.List.{List}
 use mathlib.Core.Path.{_∙_, sym}

@@ -1,4 +1,4 @@
--- `validity::char_len` meets its contract: a byte below 128 is a character, the rest is `long_len`'s.
+-- A byte below 128 is a character, the rest is `long_len`'s.
 use mathlib.Core.Path.{refl}
 use denote.Ref.{now}
 use borrow.Author.Needs.{needs}

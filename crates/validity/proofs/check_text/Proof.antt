@@ -1,4 +1,4 @@
--- `validity::check_text` meets its contract: a sound text passes, and of any other the second pass tells.
+-- A sound text passes, and of any other the second pass tells.
 use mathlib.Core.Path.{_∙_, sym}
 use borrow.Author.Needs.{needs}
 use Rattle.validity.proofs.Soundness.{passes-sound}

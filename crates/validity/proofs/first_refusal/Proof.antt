@@ -1,4 +1,4 @@
--- `validity::first_refusal` meets its contract. The invariant: what is left, from the mark here, is refused as the whole is.
+-- The invariant: what is left, from the mark here, is refused as the whole is.
 use Prim.Native.Nat.{_-_, ℕ}
 use mathlib.Core.List.{List}
 use mathlib.Core.Path.{_∙_, sym}

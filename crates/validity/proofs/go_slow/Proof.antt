@@ -1,19 +1,17 @@
--- `validity::go_slow` meets its contract. The invariant: what is left passes just where all of it does.
+-- What is left to go gives the whole way.
 use Prim.Native.Nat.{_-_, _≤_, ℕ}
 use mathlib.Core.List.{List}
-use mathlib.Core.Path.{_∙_, _≡_, refl}
 use native.Mathlib.Omega.{arith}
-use lib.ListN.{drop, length}
+use lib.ListN.{length}
 use denote.Ref.{now}
 use borrow.Author.Needs.{needs}
-use Rattle.validity.specs.Sound.{sound}
-use Rattle.validity.proofs.DecodeTurns.{some-left}
-use Rattle.validity.proofs.Soundness.{Next, next, sound-stop}
+use Rattle.validity.specs.Sound.{Goes, onto, past, stops}
+use Rattle.validity.proofs.Soundness.{Next, next}
 use Rattle.validity.proofs.go_slow.Statement.{statement}
 use Rattle.validity.proofs.go_slow.Tie as tie
 
 abbrev Inv-loop : tie.InvT-loop
-Inv-loop s at upto i₀ i = (at ≤ i) × (i ≤ length s) × (sound (drop at s) ≡ sound (drop i s))
+Inv-loop s at upto i₀ i = (i ≤ length s) × ((r : ℕ) → Goes s upto i r → Goes s upto at r)
 
 abbrev μ-loop : tie.MeasureT-loop
 μ-loop s at upto i₀ i = length s - i
@@ -24,10 +22,10 @@ S l = now (l .before .before .args .s)
 
 step : (c : tie.Else1 Inv-loop μ-loop) → Next (S (c .before .before .before)) (c .before .before .before .loop .i) (c .before .char-len .result)
 step c =
-    next (S (c .before .before .before)) (c .before .before .before .loop .i) (c .before .char-len .result) (c .before .before .before .loop .inv .1) (c .before .char-len .ensures) (c .if1 .left)
+    next (S (c .before .before .before)) (c .before .before .before .loop .i) (c .before .char-len .result) (c .before .before .before .loop .inv .0) (c .before .char-len .ensures) (c .if1 .left)
 
 loop-holds : tie.Need-loop-holds Inv-loop μ-loop
-loop-holds c = (search needs, search needs, refl)
+loop-holds c = (search needs, λ r w. w)
 
 char-len-requires : tie.Need-char-len-requires Inv-loop μ-loop
 char-len-requires c κs = search needs
@@ -35,13 +33,7 @@ char-len-requires c κs = search needs
 returns : tie.Need-returns Inv-loop μ-loop
 returns c =
     let l = c .before .before .before in
-    let h = some-left (S l) (l .loop .i) (search needs) in
-    record {
-      onward = l .loop .inv .0;
-      within = l .loop .inv .1;
-      same = l .loop .inv .2;
-      short = λ _. sound-stop _ (c .before .char-len .result) h (c .before .char-len .ensures) (c .if1 .taken);
-    }
+    l .loop .inv .1 _ (stops (c .before .before .loop-test .taken) (c .before .char-len .ensures) (c .if1 .taken))
 
 add-i : tie.Need-add-i Inv-loop μ-loop
 add-i c = omega (arith, step c)
@@ -50,12 +42,12 @@ loop-less : tie.Need-loop-less Inv-loop μ-loop
 loop-less c = omega (arith, step c)
 
 loop-again : tie.Need-loop-again Inv-loop μ-loop
-loop-again c = (omega (arith, step c), omega (arith, step c), c .before .before .before .loop .inv .2 ∙ step c .same)
+loop-again c =
+    let l = c .before .before .before in
+    (omega (arith, step c), λ r w. l .loop .inv .1 r (onto (c .before .before .loop-test .taken) (c .before .char-len .ensures) (c .if1 .left) w))
 
 returns-2 : tie.Need-returns-2 Inv-loop μ-loop
-returns-2 c =
-    let l = c .before in
-    record { onward = l .loop .inv .0; within = l .loop .inv .1; same = l .loop .inv .2; short = λ h. absurd (omega (arith, c .loop-test)) }
+returns-2 c = c .before .loop .inv .1 _ (past (c .loop-test .left))
 
 pub go-slow-spec : {M : Type 1} → statement M
 go-slow-spec =

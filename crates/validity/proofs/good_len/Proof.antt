@@ -1,4 +1,4 @@
--- `validity::good_len` meets its contract, arm by arm.
+-- Each arm is one case of the definition: NUL, any other character, none.
 use borrow.Author.Needs.{needs}
 use Rattle.validity.proofs.Lengths.{good-char, good-nul}
 use Rattle.validity.proofs.good_len.Statement.{statement}

@@ -1,4 +1,4 @@
--- `validity::is_sound` meets its contract. The invariant: what is left passes just where the whole does.
+-- The invariant: what is left passes just where the whole does.
 use Prim.Native.Nat.{_-_, _≤_, ℕ}
 use mathlib.Core.List.{List}
 use mathlib.Core.Path.{_∙_, _≡_, refl, sym}
@@ -7,7 +7,7 @@ use lib.ListN.{drop, length}
 use denote.Ref.{now}
 use borrow.Author.Needs.{needs}
 use Rattle.validity.specs.Sound.{sound}
-use Rattle.validity.proofs.Soundness.{sound-past}
+use Rattle.validity.proofs.Soundness.{Went, sound-past, went}
 use Rattle.chars.specs.Each.{each-block}
 use Rattle.validity.proofs.Blocks.{sound-block}
 use Rattle.validity.proofs.is_sound.Statement.{statement}
@@ -35,6 +35,9 @@ G = tie.After-go-slow Inv-loop μ-loop
 abbrev taken : G → B
 taken g = g .before .before .before .before
 
+slow : (g : G) → Went (S (taken g .before .before)) (taken g .before .before .loop .at) (taken g .block-end .result) (g .go-slow .result)
+slow g = went (omega (arith, taken g .block-end .ensures)) (taken g .block-end .ensures .2) (g .go-slow .ensures)
+
 loop-holds : tie.Need-loop-holds Inv-loop μ-loop
 loop-holds c = (search needs, refl)
 
@@ -60,22 +63,22 @@ loop-again : tie.Need-loop-again Inv-loop μ-loop
 loop-again c =
     let b = c .before .before .before in
     let l = b .before .before in
-    (search needs, l .loop .inv .1 ∙ sound-block (each-block (omega (arith, b .block-end .ensures)) (b .block-end .ensures .1) (sym (c .before .all-of .ensures) ∙ c .if1 .taken)))
+    (search needs, l .loop .inv .1 ∙ sound-block (each-block (omega (arith, b .block-end .ensures)) (b .block-end .ensures .2) (sym (c .before .all-of .ensures) ∙ c .if1 .taken)))
 
 go-slow-requires : tie.Need-go-slow-requires Inv-loop μ-loop
 go-slow-requires c κs = search needs
 
 returns : tie.Need-returns Inv-loop μ-loop
 returns c =
-    let w = c .before .go-slow .ensures in
+    let w = slow (c .before) in
     sym (taken (c .before) .before .before .loop .inv .1 ∙ w .same ∙ w .short (c .if2 .taken))
 
 loop-less-2 : tie.Need-loop-less-2 Inv-loop μ-loop
-loop-less-2 c = omega (arith, c .before .go-slow .ensures, taken (c .before) .block-end .ensures)
+loop-less-2 c = omega (arith, slow (c .before), taken (c .before) .block-end .ensures)
 
 loop-again-2 : tie.Need-loop-again-2 Inv-loop μ-loop
 loop-again-2 c =
-    let w = c .before .go-slow .ensures in
+    let w = slow (c .before) in
     (w .within, taken (c .before) .before .before .loop .inv .1 ∙ w .same)
 
 returns-2 : tie.Need-returns-2 Inv-loop μ-loop

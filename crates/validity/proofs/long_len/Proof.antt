@@ -1,4 +1,4 @@
--- `validity::long_len` meets its contract: each way out is the case of one length that the lead byte tells.
+-- Each way out is the case of one length that the lead byte tells.
 use Prim.Native.Nat.{ℕ}
 use mathlib.Core.List.{List}
 use mathlib.Core.Path.{_∙_, _≡_, ap, sym}

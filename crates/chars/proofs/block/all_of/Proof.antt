@@ -1,4 +1,4 @@
--- `chars::block::all_of` meets its contract: all are of the class where as many are as there are.
+-- All are of the class where as many are as there are.
 use Prim.Native.Nat.{ℕ}
 use mathlib.Core.Path.{ap}
 use lib.Dec.{eqb}

@@ -1,4 +1,4 @@
--- `chars::block::count` meets its contract. The invariant: those of the class that were passed and those that are left are all of them.
+-- The invariant: those of the class that were passed and those that are left are all of them.
 use Prim.Native.Nat.{_+_, _-_, _≤_}
 use mathlib.Core.Path.{_≡_}
 use native.Mathlib.Omega.{arith}

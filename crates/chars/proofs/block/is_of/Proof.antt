@@ -1,4 +1,4 @@
--- `chars::block::is_of` meets its contract: each arm has the test of its class.
+-- Each arm has the test of its class.
 use borrow.Author.Needs.{needs}
 use Rattle.chars.specs.Blocks.{is-space}
 use Rattle.chars.proofs.block.is_of.Statement.{statement}

@@ -1,4 +1,4 @@
--- `chars::block::is_ordinary` meets its contract: it is the definition, test by test.
+-- It is the definition, test by test.
 use mathlib.Core.Path.{refl}
 use Rattle.chars.specs.Blocks.{ordinary}
 use Rattle.chars.proofs.block.is_ordinary.Statement.{statement}

@@ -1,4 +1,4 @@
--- `chars::block::one_of` meets its contract: the two answers to the test of the class.
+-- The two answers to the test of the class.
 use mathlib.Core.Path.{_∙_, sym}
 use borrow.Author.Needs.{needs}
 use Rattle.chars.specs.Each.{one-no, one-yes}

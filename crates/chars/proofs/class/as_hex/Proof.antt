@@ -1,4 +1,4 @@
--- `chars::class::as_hex` meets its contract: a digit lies in one of three ranges.
+-- A digit lies in one of three ranges.
 use borrow.Author.Needs.{needs}
 use Rattle.yaml_text.specs.Class.{as-hex, is-digit}
 use Rattle.utf8.proofs.Cases.{cases}

@@ -1,4 +1,4 @@
--- `chars::class::is_alpha` meets its contract: it is the definition, test by test.
+-- It is the definition, test by test.
 use mathlib.Core.Bool.{or-false}
 use borrow.Author.Needs.{needs}
 use Rattle.yaml_text.specs.Class.{among, is-alpha}

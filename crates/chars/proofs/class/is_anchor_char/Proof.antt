@@ -1,4 +1,4 @@
--- `chars::class::is_anchor_char` meets its contract: it is the definition, test by test.
+-- It is the definition, test by test.
 use borrow.Author.Needs.{needs}
 use Rattle.yaml_text.specs.Class.{is-anchor}
 use Rattle.chars.proofs.class.is_anchor_char.Statement.{statement}

@@ -1,4 +1,4 @@
--- `chars::class::is_blank` meets its contract: it is the definition, test by test.
+-- It is the definition, test by test.
 use Rattle.yaml_text.specs.Class.{is-blank}
 use Rattle.chars.proofs.class.is_blank.Statement.{statement}
 use Rattle.chars.proofs.class.is_blank.Tie as tie

@@ -1,4 +1,4 @@
--- `chars::class::is_bom` meets its contract: it is the definition, test by test.
+-- It is the definition, test by test.
 use Rattle.yaml_text.specs.Class.{is-bom}
 use Rattle.chars.proofs.class.is_bom.Statement.{statement}
 use Rattle.chars.proofs.class.is_bom.Tie as tie

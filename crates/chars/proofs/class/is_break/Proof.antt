@@ -1,4 +1,4 @@
--- `chars::class::is_break` meets its contract: it is the definition, test by test.
+-- It is the definition, test by test.
 use Rattle.yaml_text.specs.Class.{is-break}
 use Rattle.chars.proofs.class.is_break.Statement.{statement}
 use Rattle.chars.proofs.class.is_break.Tie as tie

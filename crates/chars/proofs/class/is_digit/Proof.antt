@@ -1,4 +1,4 @@
--- `chars::class::is_digit` meets its contract: it is the definition, test by test.
+-- It is the definition, test by test.
 use Rattle.yaml_text.specs.Class.{is-digit}
 use Rattle.chars.proofs.class.is_digit.Statement.{statement}
 use Rattle.chars.proofs.class.is_digit.Tie as tie

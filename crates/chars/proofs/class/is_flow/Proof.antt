@@ -1,4 +1,4 @@
--- `chars::class::is_flow` meets its contract: it is the definition, test by test.
+-- It is the definition, test by test.
 use mathlib.Core.Bool.{or-assoc, or-false}
 use Rattle.yaml_text.specs.Class.{among, is-flow}
 use Rattle.chars.proofs.class.is_flow.Statement.{statement}

@@ -1,4 +1,4 @@
--- `chars::class::is_hex` meets its contract: it is the definition, test by test.
+-- It is the definition, test by test.
 use borrow.Author.Needs.{needs}
 use Rattle.yaml_text.specs.Class.{is-hex}
 use Rattle.chars.proofs.class.is_hex.Statement.{statement}

@@ -1,4 +1,4 @@
--- `chars::class::is_uri_char` meets its contract: its ranges hold the characters of the definition.
+-- Its ranges hold the characters of the definition.
 use Rattle.chars.proofs.Laws.{uri-ranges, uri-same}
 use Rattle.chars.proofs.class.is_uri_char.Statement.{statement}
 use Rattle.chars.proofs.class.is_uri_char.Tie as tie

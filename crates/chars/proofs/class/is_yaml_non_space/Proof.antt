@@ -1,4 +1,4 @@
--- `chars::class::is_yaml_non_space` meets its contract: it is the definition, test by test.
+-- It is the definition, test by test.
 use borrow.Author.Needs.{needs}
 use Rattle.yaml_text.specs.Class.{is-non-space}
 use Rattle.chars.proofs.class.is_yaml_non_space.Statement.{statement}

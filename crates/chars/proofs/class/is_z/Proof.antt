@@ -1,4 +1,4 @@
--- `chars::class::is_z` meets its contract: it is the definition, test by test.
+-- It is the definition, test by test.
 use Rattle.yaml_text.specs.Class.{is-z}
 use Rattle.chars.proofs.class.is_z.Statement.{statement}
 use Rattle.chars.proofs.class.is_z.Tie as tie

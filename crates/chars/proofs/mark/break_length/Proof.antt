@@ -1,4 +1,4 @@
--- `chars::mark::break_length` meets its contract: one law of breaks for each return.
+-- One law of breaks for each return.
 use Prim.Native.Nat.{ℕ}
 use mathlib.Core.List.{List}
 use mathlib.Core.Path.{sym}

@@ -1,4 +1,4 @@
--- `chars::mark::is_marker` meets its contract: an ASCII character is told by its byte.
+-- An ASCII character is told by its byte.
 use Prim.Native.Nat.{ℕ}
 use mathlib.Core.List.{List}
 use mathlib.Core.Path.{_∙_, sym}

@@ -1,4 +1,4 @@
--- `chars::mark::skip_break` meets its contract: where no break stands the place stays, and each character of a break is one byte.
+-- Where no break stands the place stays, and each character of a break is one byte.
 use mathlib.Core.Path.{_∙_, sym}
 use borrow.Author.Needs.{needs}
 use Rattle.chars.specs.Lines.{break-few, skip-none, skip-some}

@@ -1,4 +1,4 @@
--- `chars::mark::twice_more` meets its contract: an ASCII character is told by its byte.
+-- An ASCII character is told by its byte.
 use denote.Ref.{now}
 use borrow.Author.Needs.{needs}
 use Rattle.chars.specs.Lines.{twice-bytes}

@@ -6,7 +6,7 @@ use Rattle.choices.proofs.advance.unrolled.Statement.{statement}
 use Rattle.choices.proofs.advance.unrolled.Tie as tie
 
 returns : tie.Need-returns
-returns c = let a = c .before .before .before .before .args in unrolls-none (now (a .stacks)) (a .s) (c .if1 .taken)
+returns c = let b = c .before .before .before .before in unrolls-none (now (b .args .stacks)) (b .args .s) (b .pre .0) (c .if1 .taken)
 
 add-unroll : tie.Need-add-unroll
 add-unroll c = search needs

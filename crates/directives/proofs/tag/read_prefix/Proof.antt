@@ -27,8 +27,8 @@ same-length : tie.Need-same-length
 same-length c = search needs
 
 returns : tie.Need-returns
-returns c = λ before h f.
-    prefix-bad _ f (c .before .before .before .before .before .before .before .skip-blanks .ensures) (c .before .before .before .before .before .before .byte .ensures) (sym (c .before .before .before .before .before .begins-prefix .ensures) ∙ not-true _ (c .before .before .before .before .if1 .taken)) (c .before .before .refuse-out .ensures .0) (c .before .before .refuse-out .ensures .1)
+returns c =
+    prefix-bad _ (c .before .before .before .before .before .before .before .skip-blanks .ensures) (c .before .before .before .before .before .before .byte .ensures) (sym (c .before .before .before .before .before .begins-prefix .ensures) ∙ not-true _ (c .before .before .before .before .if1 .taken)) (c .before .before .refuse-out .ensures .0) (c .before .before .refuse-out .ensures .1)
 
 uri-run-requires : tie.Need-uri-run-requires
 uri-run-requires c κs = search needs
@@ -70,9 +70,9 @@ same-length-2 : tie.Need-same-length-2
 same-length-2 c = search needs
 
 returns-2 : tie.Need-returns-2
-returns-2 c = λ before h f.
+returns-2 c =
     let g = c .before .before .before .before .before .before .before .before .before .before .before .before .before .before .before .before .before .before .before .before .pre in
-    prefix-ended _ f (c .before .before .before .before .before .before .before .before .before .before .before .before .before .before .before .before .before .skip-blanks .ensures) (prefix-some _ (c .before .before .before .before .before .before .before .before .before .before .before .before .before .before .before .before .byte .ensures) (sym (c .before .before .before .before .before .before .before .before .before .before .before .before .before .before .before .begins-prefix .ensures) ∙ not-false _ (c .before .before .before .before .before .before .before .before .before .before .before .before .before .before .if1 .left)) (c .before .before .before .before .before .before .before .before .before .before .before .before .uri-run .ensures .writes)) (c .before .before .before .before .before .before .before .before .r2 .given .1) (c .before .before .before .before .before .before .look .ensures) (g .0) (g .2) (g .3)
+    prefix-ended _ (c .before .before .before .before .before .before .before .before .before .before .before .before .before .before .before .before .before .skip-blanks .ensures) (prefix-some _ (c .before .before .before .before .before .before .before .before .before .before .before .before .before .before .before .before .byte .ensures) (sym (c .before .before .before .before .before .before .before .before .before .before .before .before .before .before .before .begins-prefix .ensures) ∙ not-false _ (c .before .before .before .before .before .before .before .before .before .before .before .before .before .before .if1 .left)) (c .before .before .before .before .before .before .before .before .before .before .before .before .uri-run .ensures .writes)) (c .before .before .before .before .before .before .before .before .r2 .given .1) (c .before .before .before .before .before .before .look .ensures) (g .0) (g .2) (g .3)
     (sym (c .before .before .before .before .before .is-blank-or-breakz .ensures) ∙ c .before .before .before .before .if2 .taken) (c .before .before .before .text-at .ensures) (c .before .before .as-word .ensures) (c .before .text-at2 .ensures) (c .got .ensures)
 
 refuse-out-requires-2 : tie.Need-refuse-out-requires-2
@@ -82,16 +82,16 @@ same-length-3 : tie.Need-same-length-3
 same-length-3 c = search needs
 
 returns-3 : tie.Need-returns-3
-returns-3 c = λ before h f.
-    prefix-refused _ f (c .before .before .before .before .before .before .before .before .before .before .before .before .before .before .skip-blanks .ensures) (prefix-some _ (c .before .before .before .before .before .before .before .before .before .before .before .before .before .byte .ensures) (sym (c .before .before .before .before .before .before .before .before .before .before .before .before .begins-prefix .ensures) ∙ not-false _ (c .before .before .before .before .before .before .before .before .before .before .before .if1 .left)) (c .before .before .before .before .before .before .before .before .before .uri-run .ensures .writes)) (c .before .before .before .before .before .before .before .before .before .uri-run .kept .1 .1 .1 .1 .1 .0)
+returns-3 c =
+    prefix-refused _ (c .before .before .before .before .before .before .before .before .before .before .before .before .before .before .skip-blanks .ensures) (prefix-some _ (c .before .before .before .before .before .before .before .before .before .before .before .before .before .byte .ensures) (sym (c .before .before .before .before .before .before .before .before .before .before .before .before .begins-prefix .ensures) ∙ not-false _ (c .before .before .before .before .before .before .before .before .before .before .before .if1 .left)) (c .before .before .before .before .before .before .before .before .before .uri-run .ensures .writes)) (c .before .before .before .before .before .before .before .before .before .uri-run .kept .1 .1 .1 .1 .1 .0)
     (c .before .before .pass-on .ensures .1) (c .before .before .before .before .before .r .given .1) (c .before .before .pass-on .ensures .0)
 
 same-length-4 : tie.Need-same-length-4
 same-length-4 c = search needs
 
 returns-4 : tie.Need-returns-4
-returns-4 c = λ before h f.
-    prefix-followed _ f (c .before .before .before .before .before .before .before .before .before .before .before .before .before .before .before .before .before .skip-blanks .ensures) (prefix-some _ (c .before .before .before .before .before .before .before .before .before .before .before .before .before .before .before .before .byte .ensures) (sym (c .before .before .before .before .before .before .before .before .before .before .before .before .before .before .before .begins-prefix .ensures) ∙ not-false _ (c .before .before .before .before .before .before .before .before .before .before .before .before .before .before .if1 .left)) (c .before .before .before .before .before .before .before .before .before .before .before .before .uri-run .ensures .writes)) (c .before .before .before .before .before .before .before .before .before .before .before .before .uri-run .kept .1 .1 .1 .1 .1 .0)
+returns-4 c =
+    prefix-followed _ (c .before .before .before .before .before .before .before .before .before .before .before .before .before .before .before .before .before .skip-blanks .ensures) (prefix-some _ (c .before .before .before .before .before .before .before .before .before .before .before .before .before .before .before .before .byte .ensures) (sym (c .before .before .before .before .before .before .before .before .before .before .before .before .before .before .before .begins-prefix .ensures) ∙ not-false _ (c .before .before .before .before .before .before .before .before .before .before .before .before .before .before .if1 .left)) (c .before .before .before .before .before .before .before .before .before .before .before .before .uri-run .ensures .writes)) (c .before .before .before .before .before .before .before .before .before .before .before .before .uri-run .kept .1 .1 .1 .1 .1 .0)
     (c .before .before .refuse-out2 .ensures .1) (c .before .before .before .before .before .before .before .before .r2 .given .1) (c .before .before .before .before .before .before .look .ensures) (sym (c .before .before .before .before .before .is-blank-or-breakz .ensures) ∙ c .before .before .before .before .if2 .left) (c .before .before .refuse-out2 .ensures .0)
 
 pub read-prefix-spec : {M : Type 1} → statement M

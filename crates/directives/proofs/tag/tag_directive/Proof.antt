@@ -67,7 +67,7 @@ same-length-2 c = search needs
 returns-2 : tie.Need-returns-2
 returns-2 c = let k = c .before .before .before .before .before .before .before .before .before in
     let t = read k in
-    tag-got _ (k .before .before .before .before .skip-blanks .ensures) (t .1) (t .2) (c .before .before .read-prefix .ensures _ (t .0 .text) (span-front (t .2) (c .before .before .before .before .before .before .copy .ensures)))
+    tag-got _ (k .before .before .before .before .skip-blanks .ensures) (t .1) (t .2) (span-front (t .2) (c .before .before .before .before .before .before .copy .ensures)) (c .before .before .read-prefix .ensures)
 
 pub tag-directive-spec : {M : Type 1} → statement M
 tag-directive-spec =

@@ -3,7 +3,8 @@ use mathlib.Core.List.{[], _∷_}
 use mathlib.Core.Path.{refl}
 use borrow.Author.Needs.{needs}
 use Rattle.yaml_text.specs.Class.{among}
-use Rattle.yaml_lexeme.specs.Escape.{looked-up, named}
+use Rattle.yaml_lexeme.specs.Table.{looked-up}
+use Rattle.yaml_lexeme.specs.Escape.{named}
 use Rattle.escapes.proofs.Letters.{unlettered}
 use Rattle.escapes.proofs.escape.letter.Statement.{statement}
 use Rattle.escapes.proofs.escape.letter.Tie as tie

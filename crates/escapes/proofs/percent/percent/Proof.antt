@@ -47,7 +47,7 @@ abbrev Trailing : tie.After-trailing → Octets → Type 0
 Trailing c r = let s = start (lead-at (led c)) in TrailingAt (text s) (at s + 3) (len (led c) - 1) (c .trailing .last .1 .1 .0) r
 
 trailing-read : (c : tie.After-trailing) → Trailing c (c .trailing .result)
-trailing-read c = rw (room (leads (led c))) at (c .trailing .ensures)
+trailing-read c = rw (room (leads (led c))) at (c .trailing .ensures .read)
 
 filled-all : (c : tie.After-trailing) → length (c .trailing .last .1 .1 .0) ≡ len (led c) - 1
 filled-all c = c .trailing .kept .1 .1 .0 ∙ room (leads (led c))

@@ -1,8 +1,5 @@
 -- The byte there tells whether it is a quote, a backslash or text that stands for itself.
-use Prim.Native.Nat.{_+_}
 use mathlib.Core.Path.{_∙_, sym}
-use lib.Dec.{leb}
-use borrow.Author.Tests.{leb-true}
 use Rattle.quoted.proofs.Chosen.{backslash-there, quote-there, text-plain}
 use Rattle.quoted.proofs.Quotes.{run-turns}
 use borrow.Author.Needs.{needs}
@@ -70,8 +67,7 @@ returns-3 c =
     let b = f .before .before in
     let s = b .before .before .before in
     let q = s .args .q in
-    let m = s .args .p .mark in
-    run-turns (s .pre .0) (leb (q .indent) (m .col + 1)) (leb-true (q .indent) (m .col + 1)) (s .pre .1 .is)
+    run-turns (s .pre .0) (s .pre .1)
     (text-plain (q .single) (s .pre .1) (b .byte .ensures) (λ x. f .if1 .left (x ∙ sym (f .before .quote-char .ensures))) (e .before .before .before .if2 .left))
     (e .text-end .ensures) (c .before .before .before .copy .ensures) (c .goes .ensures)
 

@@ -5,13 +5,13 @@ use native.Mathlib.Omega.{arith}
 use lib.ListN.{drop, length}
 use denote.Ref.{now}
 use borrow.Author.Needs.{needs}
-use Rattle.yaml_lexeme.specs.Record.{same-words}
+use Rattle.yaml_text.specs.Class.{same}
 use Rattle.records.proofs.Same.{all-same, other-length, other-word, same-word}
 use Rattle.records.proofs.found.same_words.Statement.{statement}
 use Rattle.records.proofs.found.same_words.Tie as tie
 
 abbrev Inv-loop : tie.InvT-loop
-Inv-loop a b i₀ i = (i ≤ length a) × (length a ≡ length b) × (same-words a b ≡ same-words (drop i a) (drop i b))
+Inv-loop a b i₀ i = (i ≤ length a) × (length a ≡ length b) × (same a b ≡ same (drop i a) (drop i b))
 
 abbrev μ-loop : tie.MeasureT-loop
 μ-loop a b i₀ i = length a - i

@@ -1,10 +1,11 @@
--- StreamStart is stored, and stacks that are all zero are those of the definition's first state.
+-- StreamStart is stored, and words that are all zero, with the first state and its counts stored, hold what the definition begins with.
 use Prim.Native.Nat.{ℕ}
+use native.Mathlib.Omega.{arith}
 use denote.Ref.{now}
 use lib.ListN.{length-replicate}
 use borrow.Author.Needs.{needs}
-use Rattle.stacks.specs.Stack.{stack-words}
-use Rattle.scanner.proofs.Going.{start-comes, start-given, zeros}
+use Rattle.driver.specs.Held.{held-words}
+use Rattle.scanner.proofs.Start.{start-runs}
 use Rattle.scanner.proofs.run.run.Statement.{statement}
 use Rattle.scanner.proofs.run.run.Tie as tie
 
@@ -14,11 +15,23 @@ begin-requires c κs = search needs
 put-record-requires : tie.Need-put-record-requires
 put-record-requires c κs = search needs
 
+slice-aggregate-store-state : tie.Need-slice-aggregate-store-state
+slice-aggregate-store-state c = search needs
+
+store-state-requires : tie.Need-store-state-requires
+store-state-requires c κs = rw (c .before .before .before .before .before .before .begin .ensures) (length-replicate {A = ℕ} held-words 0, omega arith, omega arith, omega arith)
+
+slice-aggregate-store-counts : tie.Need-slice-aggregate-store-counts
+slice-aggregate-store-counts c = search needs
+
+store-counts-requires : tie.Need-store-counts-requires
+store-counts-requires c κs = search needs
+
 slice-aggregate-all-steps : tie.Need-slice-aggregate-all-steps
 slice-aggregate-all-steps c = search needs
 
 all-steps-requires : tie.Need-all-steps-requires
-all-steps-requires c κs = let a = c .before .before .before .before .before .before .before .before .before .before .before .before in rw (c .before .before .before .before .before .before .before .before .begin .ensures) (start-given _ _ _ (zeros stack-words) (a .pre .0) (a .pre .1) (length-replicate {A = ℕ} stack-words 0))
+all-steps-requires c κs = search needs
 
 same-length : tie.Need-same-length
 same-length c = search needs
@@ -28,13 +41,12 @@ same-length-2 c = search needs
 
 returns : tie.Need-returns
 returns c =
-    let k = c .before .before .before .before .before in
-    let l = k .all-steps .last .1 .1 .1 .1 .1 in
-    let p = c .before .before .before .before .before .before .before .before .before .before .before in
-    let b = c .before .before .before .before .before .before .before .before .before .before .before .before .before .before in
-    let a = c .before .before .before .before .before .before .before .before .before .before .before .before .before .before .before .before .before .before .args in
-    start-comes (a .limits) (now (a .text)) _ (zeros stack-words) (now (a .words)) (now (a .bytes)) (l .0) (l .1 .0) (k .all-steps .result)
-    (rw (b .begin .ensures) at (p .put-record .ensures)) (p .put-record .kept .0) (rw (b .begin .ensures) at (k .all-steps .ensures))
+    let a = c .before .before .before .before .before .before .before .before .before .before .before .before .before .before .before .before .before .before .before .before .before .before .before .before .args in
+    let k = c .before .before .before .before .before .all-steps in
+    let l = k .last .1 .1 .1 in
+    let p = c .before .before .before .before .before .before .before .before .before .before .before .before .before .before .before .before .before .put-record in
+    start-runs (a .limits) (now (a .text)) (c .before .before .before .before .before .before .before .before .before .before .before .before .before .before .before .before .before .before .before .before .before .before .before .before .pre .0) (c .before .before .before .before .before .before .before .before .before .before .before .before .before .before .before .before .before .before .before .before .before .before .before .before .pre .1) (now (a .words)) (now (a .bytes)) (l .0) (l .1 .0) (l .1 .1 .0) (k .result)
+    (c .before .before .before .before .before .before .before .before .before .before .before .before .before .before .before .before .before .before .before .before .begin .ensures) (c .before .before .before .before .before .before .before .before .before .before .before .before .before .store-state .ensures) (c .before .before .before .before .before .before .before .before .before .before .store-counts .ensures) (rw (c .before .before .before .before .before .before .before .before .before .before .before .before .before .before .before .before .before .before .before .before .begin .ensures) at (p .ensures)) (p .kept .0) (k .ensures)
 
 pub run-spec : {M : Type 1} → statement M
 run-spec =
@@ -42,6 +54,10 @@ run-spec =
     (tie.spec
     begin-requires
     put-record-requires
+    slice-aggregate-store-state
+    store-state-requires
+    slice-aggregate-store-counts
+    store-counts-requires
     slice-aggregate-all-steps
     all-steps-requires
     same-length

@@ -25,7 +25,7 @@ same-length c = search needs
 
 returns : tie.Need-returns
 unfolding key-words
-returns c = key-stored (now (c .args .stacks)) (c .args .level) Absent (c .pre .0) (c .pre .1) refl
+returns c = key-stored (now (c .args .stacks)) (c .args .level) Absent (c .pre .0) (c .pre .1) tt refl
 
 pub clear-key-spec : {M : Type 1} → statement M
 clear-key-spec =

@@ -22,47 +22,50 @@ shared-slice-read-k c = search needs
 
 returns : tie.Need-returns
 unfolding key-at
-returns c = let a = c .before .before .args in rw (eq-eqb (getD (now (a .stacks)) (frame-at (a .level)) 0) 0 (c .if1 .taken))
+returns c = let a = c .before .before .before .args in rw (eq-eqb (getD (now (a .stacks)) (frame-at (a .level)) 0) 0 (c .if1 .taken))
 
-add-t6 : tie.Need-add-t6
-add-t6 c = search needs
+add-at-most : tie.Need-add-at-most
+add-at-most c = search needs
 
-mul-t10 : tie.Need-mul-t10
-mul-t10 c = search needs
+mul-at-most : tie.Need-mul-at-most
+mul-at-most c = search needs
 
-shared-slice-read-t8 : tie.Need-shared-slice-read-t8
-shared-slice-read-t8 c = search needs
+shared-slice-read-at-most : tie.Need-shared-slice-read-at-most
+shared-slice-read-at-most c = search needs
 
-add-t12 : tie.Need-add-t12
-add-t12 c = search needs
+at-most-requires : tie.Need-at-most-requires
+at-most-requires c κs = search needs
 
-mul-t13 : tie.Need-mul-t13
-mul-t13 c = search needs
+add-t7 : tie.Need-add-t7
+add-t7 c = search needs
 
-shared-slice-read-t15 : tie.Need-shared-slice-read-t15
-shared-slice-read-t15 c = search needs
+mul-t11 : tie.Need-mul-t11
+mul-t11 c = search needs
 
-add-t16 : tie.Need-add-t16
-add-t16 c = search needs
+shared-slice-read-t9 : tie.Need-shared-slice-read-t9
+shared-slice-read-t9 c = search needs
 
-mul-t17 : tie.Need-mul-t17
-mul-t17 c = search needs
+add-t14 : tie.Need-add-t14
+add-t14 c = search needs
 
-shared-slice-read-t19 : tie.Need-shared-slice-read-t19
-shared-slice-read-t19 c = search needs
+mul-t15 : tie.Need-mul-t15
+mul-t15 c = search needs
 
-add-t6-2 : tie.Need-add-t6-2
-add-t6-2 c = search needs
+shared-slice-read-t17 : tie.Need-shared-slice-read-t17
+shared-slice-read-t17 c = search needs
 
-mul-t17-2 : tie.Need-mul-t17-2
-mul-t17-2 c = search needs
+add-t7-2 : tie.Need-add-t7-2
+add-t7-2 c = search needs
 
-shared-slice-read-t19-2 : tie.Need-shared-slice-read-t19-2
-shared-slice-read-t19-2 c = search needs
+mul-t15-2 : tie.Need-mul-t15-2
+mul-t15-2 c = search needs
+
+shared-slice-read-t17-2 : tie.Need-shared-slice-read-t17-2
+shared-slice-read-t17-2 c = search needs
 
 returns-2 : tie.Need-returns-2
 unfolding key-at
-returns-2 c = let a = c .before .before .before .before .before .before .args in rw (ne-eqb (getD (now (a .stacks)) (frame-at (a .level)) 0) 0 (c .before .before .before .before .if1 .left))
+returns-2 c = let a = c .before .before .before .before .before .before .before .before .args in rw (c .before .before .before .at-most .ensures, ne-eqb (getD (now (a .stacks)) (frame-at (a .level)) 0) 0 (c .before .before .before .before .before .if1 .left))
 
 pub key-spec : {M : Type 1} → statement M
 key-spec =
@@ -73,16 +76,17 @@ key-spec =
     mul-k
     shared-slice-read-k
     returns
-    add-t6
-    mul-t10
-    shared-slice-read-t8
-    add-t12
-    mul-t13
-    shared-slice-read-t15
-    add-t16
-    mul-t17
-    shared-slice-read-t19
-    add-t6-2
-    mul-t17-2
-    shared-slice-read-t19-2
+    add-at-most
+    mul-at-most
+    shared-slice-read-at-most
+    at-most-requires
+    add-t7
+    mul-t11
+    shared-slice-read-t9
+    add-t14
+    mul-t15
+    shared-slice-read-t17
+    add-t7-2
+    mul-t15-2
+    shared-slice-read-t17-2
     returns-2)

@@ -72,7 +72,7 @@ same-length c = search needs
 returns : tie.Need-returns
 unfolding key-words
 returns c = let a = c .args in let m = a .m in
-    key-stored (now (a .stacks)) (a .level) (Possible (a .required) (a .number) m) (c .pre .0) (c .pre .1)
+    key-stored (now (a .stacks)) (a .level) (Possible (a .required) (a .number) m) (c .pre .0) (c .pre .1) (c .pre .2)
     (sets-five (now (a .stacks)) (frame-at (a .level)) (1 + bit (a .required)) (a .number) (m .index) (m .line) (m .col))
 
 pub set-key-spec : {M : Type 1} → statement M

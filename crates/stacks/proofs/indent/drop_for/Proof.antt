@@ -1,6 +1,4 @@
 -- The three tests of the definition, one after the other: no entry, above the column, ends a block.
-use Prim.Native.Nat.{_-_}
-use native.Mathlib.Omega.{arith}
 use denote.Ref.{now}
 use borrow.Author.Needs.{needs}
 use Rattle.stacks.proofs.Drops.{drop-top, keep-deep, keep-ending, keep-none}
@@ -8,10 +6,10 @@ use Rattle.stacks.proofs.indent.drop_for.Statement.{statement}
 use Rattle.stacks.proofs.indent.drop_for.Tie as tie
 
 returns : tie.Need-returns
-returns c = let a = c .before .args in (keep-none (now (a .stacks)) (a .edge) (a .from) (c .if1 .taken), c .before .pre .1)
+returns c = let b = c .before .before in keep-none (now (b .args .stacks)) (b .args .edge) (b .args .from) (b .pre .0 .indent) (c .if1 .taken)
 
 returns-2 : tie.Need-returns-2
-returns-2 c = let a = c .before .before .before .args in (keep-deep (now (a .stacks)) (a .edge) (a .from) (c .before .before .if1 .left) (c .if2 .taken), c .before .before .before .pre .1)
+returns-2 c = let b = c .before .before .before .before in keep-deep (now (b .args .stacks)) (b .args .edge) (b .args .from) (b .pre .0 .indent) (c .before .before .if1 .left) (c .if2 .taken)
 
 sub-entry : tie.Need-sub-entry
 sub-entry c = search needs
@@ -23,13 +21,19 @@ shared-slice-read-entry : tie.Need-shared-slice-read-entry
 shared-slice-read-entry c = search needs
 
 returns-3 : tie.Need-returns-3
-returns-3 c = let a = c .before .before .before .before .before .args in (keep-ending (now (a .stacks)) (a .edge) (a .from) (c .before .before .before .before .if1 .left) (c .before .before .if2 .left) (c .if3 .taken), c .before .before .before .before .before .pre .1)
+returns-3 c = let b = c .before .before .before .before .before .before in keep-ending (now (b .args .stacks)) (b .args .edge) (b .args .from) (b .pre .0 .indent) (c .before .before .before .before .if1 .left) (c .before .before .if2 .left) (c .if3 .taken)
 
-sub-t8 : tie.Need-sub-t8
-sub-t8 c = search needs
+sub-taken-back : tie.Need-sub-taken-back
+sub-taken-back c = search needs
+
+taken-back-requires : tie.Need-taken-back-requires
+taken-back-requires c κs = search needs
+
+sub-t7 : tie.Need-sub-t7
+sub-t7 c = search needs
 
 returns-4 : tie.Need-returns-4
-returns-4 c = let a = c .before .before .before .before .before .args in (drop-top (now (a .stacks)) (a .edge) (a .from) (c .before .before .before .before .if1 .left) (c .before .before .if2 .left) (c .if3 .left), omega (arith, c .before .shared-slice-known .given (a .from .depth - 1)))
+returns-4 c = let b = c .before .before .before .before .before .before .before in rw (c .taken-back .ensures) (drop-top (now (b .args .stacks)) (b .args .edge) (b .args .from) (b .pre .0 .indent) (c .before .before .before .before .before .if1 .left) (c .before .before .before .if2 .left) (c .before .if3 .left))
 
 pub drop-for-spec : {M : Type 1} → statement M
 drop-for-spec =
@@ -41,5 +45,7 @@ drop-for-spec =
     mul-entry
     shared-slice-read-entry
     returns-3
-    sub-t8
+    sub-taken-back
+    taken-back-requires
+    sub-t7
     returns-4)

@@ -12,7 +12,7 @@ abbrev μ-loop : tie.MeasureT-loop
 μ-loop stack indent₀ depth₀ indent depth = depth
 
 loop-holds : tie.Need-loop-holds Inv-loop μ-loop
-loop-holds c = let a = c .args in dropping-start (now (a .stacks)) (a .from)
+loop-holds c = let b = c .before in dropping-start (now (b .args .stacks)) (b .args .from) (b .pre .0 .indent)
 
 sub-if1 : tie.Need-sub-if1 Inv-loop μ-loop
 sub-if1 c = search needs
@@ -26,17 +26,20 @@ shared-slice-read-if1 c = search needs
 sub-depth : tie.Need-sub-depth Inv-loop μ-loop
 sub-depth c = search needs
 
-mul-indent : tie.Need-mul-indent Inv-loop μ-loop
-mul-indent c = search needs
+mul-taken-back : tie.Need-mul-taken-back Inv-loop μ-loop
+mul-taken-back c = search needs
 
-shared-slice-read-indent : tie.Need-shared-slice-read-indent Inv-loop μ-loop
-shared-slice-read-indent c = search needs
+shared-slice-read-taken-back : tie.Need-shared-slice-read-taken-back Inv-loop μ-loop
+shared-slice-read-taken-back c = search needs
+
+taken-back-requires : tie.Need-taken-back-requires Inv-loop μ-loop
+taken-back-requires c κs = search needs
 
 loop-less : tie.Need-loop-less Inv-loop μ-loop
 loop-less c = search needs
 
 loop-again : tie.Need-loop-again Inv-loop μ-loop
-loop-again c = dropping-more (c .before .before .before .before .loop .inv) (c .before .before .before .loop-test .taken) (c .before .if1 .taken)
+loop-again c = rw (c .taken-back .ensures) (dropping-more (c .before .before .before .before .before .loop .inv) (c .before .before .before .before .loop-test .taken) (c .before .before .if1 .taken))
 
 returns : tie.Need-returns Inv-loop μ-loop
 returns c = dropped-stop (c .before .before .before .loop .inv) (c .before .before .loop-test .taken) (c .if1 .left)
@@ -55,8 +58,9 @@ drop-non-ending-spec =
     mul-if1
     shared-slice-read-if1
     sub-depth
-    mul-indent
-    shared-slice-read-indent
+    mul-taken-back
+    shared-slice-read-taken-back
+    taken-back-requires
     loop-less
     loop-again
     returns

@@ -20,7 +20,7 @@ same-length c = search needs
 
 returns-2 : tie.Need-returns-2
 returns-2 c = let b = c .before .before .before .before .before .before .before in let a = b .args in let p = c .before .before .push .ensures in
-    rw (p .0, p .1) (stack-got (now (a .stacks)) (a .limit) (a .m) (a .indent) (a .ends) (a .from) (b .pre .0) (b .pre .1) (c .before .before .before .before .if1 .left))
+    rw (p .0, p .1) (stack-got (now (a .stacks)) (a .limit) (a .m) (a .indent) (a .ends) (a .from) (b .pre .0) (b .pre .3) (c .before .before .before .before .if1 .left) (b .pre .1) (b .pre .2))
 
 pub stack-spec : {M : Type 1} → statement M
 stack-spec = tie.close (tie.spec full-requires returns push-requires same-length returns-2)

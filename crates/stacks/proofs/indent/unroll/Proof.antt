@@ -12,7 +12,7 @@ abbrev μ-loop : tie.MeasureT-loop
 μ-loop stack edge indent₀ depth₀ ended₀ indent depth ended = depth
 
 loop-holds : tie.Need-loop-holds Inv-loop μ-loop
-loop-holds c = let a = c .args in unrolling-start (now (a .stacks)) (a .edge) (a .from)
+loop-holds c = let b = c .before in unrolling-start (now (b .args .stacks)) (b .args .edge) (b .args .from) (b .pre .0 .indent)
 
 sub-depth : tie.Need-sub-depth Inv-loop μ-loop
 sub-depth c = search needs
@@ -23,6 +23,9 @@ mul-entry c = search needs
 shared-slice-read-entry : tie.Need-shared-slice-read-entry Inv-loop μ-loop
 shared-slice-read-entry c = search needs
 
+taken-back-requires : tie.Need-taken-back-requires Inv-loop μ-loop
+taken-back-requires c κs = search needs
+
 add-ended : tie.Need-add-ended Inv-loop μ-loop
 add-ended c = search needs
 
@@ -30,7 +33,7 @@ loop-less : tie.Need-loop-less Inv-loop μ-loop
 loop-less c = search needs
 
 loop-again : tie.Need-loop-again Inv-loop μ-loop
-loop-again c = unrolling-more (c .before .before .before .loop .inv) (c .before .before .loop-test .taken) (c .before .if1 .taken)
+loop-again c = rw (c .taken-back .ensures) (unrolling-more (c .before .before .before .before .loop .inv) (c .before .before .before .loop-test .taken) (c .before .before .if1 .taken))
 
 returns : tie.Need-returns Inv-loop μ-loop
 returns c = unrolled-stop (c .before .before .loop .inv) (c .if1 .left)
@@ -48,6 +51,7 @@ unroll-spec =
     sub-depth
     mul-entry
     shared-slice-read-entry
+    taken-back-requires
     add-ended
     loop-less
     loop-again

@@ -1,0 +1,4 @@
+pub mod Held
+pub mod Behind
+pub mod Step
+pub mod Drives

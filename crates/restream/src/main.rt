@@ -1,0 +1,63 @@
+// Reads lines `HEX words=W bytes=B`. Writes each again, with what taking the tokens of the text one at a time gives in rooms of W words and B bytes.
+mod head;
+mod taken;
+
+ghost use Prim.Native.Nat.{_≤_};
+ghost use lib.ListN.{length};
+use head::least;
+use head::number_end;
+use head::read_number;
+use libc::STDIN_FILENO;
+use libc::STDOUT_FILENO;
+use records::RECORD_WORDS;
+use stream::LEAST_RECORDS;
+use taken::say_taken;
+use vectors::line_end;
+use vectors::read_hex;
+
+// The longest text, and the most bytes that are lent to it.
+const MOST_TEXT: usize = 8_448;
+
+const MOST_BYTES: usize = 12_672;
+
+// 7 bytes stand before each number, ` words=` and ` bytes=`.
+fn restream_line(line: &[u8], words: &mut [u32], bytes: &mut [u8])
+    requires { ⌜ length (now bytes) ≤ 12_672 ⌝ }
+{
+    let mut space = [0u8; MOST_TEXT];
+    let n = read_hex(line, &mut space);
+    let from = 2 * n + 7;
+    let to = number_end(line, from);
+    let w = least(read_number(line, from) as usize, words.len());
+    let b = least(read_number(line, to + 7) as usize, bytes.len());
+    io::write_all(STDOUT_FILENO, line);
+    io::write_all(STDOUT_FILENO, b" => ");
+    say_taken(&space[0..n], &mut words[0..w], &mut bytes[0..b]);
+}
+
+// The rooms hold what the text before left there.
+fn restream_all(s: &[u8], words: &mut [u32], bytes: &mut [u8])
+    requires { ⌜ length (now bytes) ≤ 12_672 ⌝ }
+{
+    let mut at = 0;
+    while at < s.len() {
+        let end = line_end(s, at);
+        restream_line(&s[at..end], words, bytes);
+        at = end + 1;
+    }
+}
+
+// The lines go into a room of their own, which holds the whole file.
+fn restream_input(space: &mut [u8], words: &mut [u32], bytes: &mut [u8])
+    requires { ⌜ length (now bytes) ≤ 12_672 ⌝ }
+{
+    let n = io::read_full(STDIN_FILENO, space);
+    restream_all(&space[0..n], words, bytes);
+}
+
+fn main() {
+    let mut space = [0u8; 524288];
+    let mut words = [7u32; LEAST_RECORDS * RECORD_WORDS];
+    let mut bytes = [7u8; MOST_BYTES];
+    restream_input(&mut space, &mut words, &mut bytes);
+}

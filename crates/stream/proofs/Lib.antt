@@ -1,0 +1,13 @@
+pub mod Lends
+pub mod Kept
+pub mod FirstSlot
+pub mod Given
+pub mod Gives
+pub mod Breaks
+pub mod Starts
+pub mod Begins
+pub mod Front
+pub mod Ends
+pub mod Pauses
+pub mod Scanned
+pub mod Called

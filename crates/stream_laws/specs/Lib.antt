@@ -1,0 +1,4 @@
+pub mod Driven
+pub mod Notes
+pub mod Sought
+pub mod Laid

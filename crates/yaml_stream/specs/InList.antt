@@ -1,0 +1,437 @@
+-- A list that opens on its key's line is no candidate: its entries are given as they come, at most 4 tokens wait, and 51 is not met, however long it is.
+use Prim.Native.Nat.{_≤_, suc, ℕ}
+use mathlib.Core.Bool.{Bool, _&&_, false, not, true}
+use mathlib.Core.List.{List, [], _++_, _∷_}
+use mathlib.Core.Logic.{_⊎_, inl, inr}
+use mathlib.Core.Path.{_≡_, ap, refl}
+use native.Mathlib.Omega.{arith}
+use lib.Dec.{ltb}
+use lib.ListN.{drop, length}
+use borrow.Author.Tests.{le-ltb}
+use Rattle.yaml_text.specs.declared.Mark.{Mark}
+use Rattle.yaml_text.specs.Mark.{Place}
+use Rattle.yaml_text.specs.Refusal.{Read, _>>=_, got}
+use Rattle.yaml_text.specs.Test.{by-pick, by-test, true-false}
+use Rattle.yaml_text.specs.All.{All, all-any, all-bind, all-got, all-is, all-need, holds, not-read}
+use Rattle.yaml_lexeme.specs.Token.{FlowMappingEnd, Token}
+use Rattle.yaml_lexeme.specs.Plain.{scan-plain-scalar}
+use Rattle.yaml_scan.specs.declared.Candidate.{Candidate}
+use Rattle.yaml_scan.specs.declared.Candidate.the-variants.{Absent, Possible}
+use Rattle.yaml_scan.specs.declared.Choice.{Choice}
+use Rattle.yaml_scan.specs.declared.Choice.the-variants.{AtColon, AtComma, AtPlain, Closes, Opens}
+use Rattle.yaml_scan.specs.declared.Level.{Level}
+use Rattle.yaml_scan.specs.declared.Limits.{Limits}
+use Rattle.yaml_scan.specs.Indent.{Unrolled, top-ends}
+use Rattle.yaml_scan.specs.Keys.{lapse, set-key, top-key}
+use Rattle.yaml_scan.specs.State.{Event, News, State, allow, at-place, block-ends, empty-if, ends-with, goes-on, in-flow, lapse-key, mark-of, on-level, preceded, put, remove-key, save-key, with-keys}
+use Rattle.yaml_scan.specs.Bracket.{fetch-flow-collection-end, fetch-flow-collection-start, fetch-flow-entry, implicit-open, new-entry, stack-bracket}
+use Rattle.yaml_scan.specs.Value.{value-by, value-with}
+use Rattle.yaml_scan.specs.Choice.{choice}
+use Rattle.yaml_scan.specs.Fetch.{fetch, fetch-plain-scalar}
+use Rattle.yaml_scan.specs.Scan.{step, to-next-token, unrolled}
+use Rattle.yaml_scan.specs.Slots.{Slot, flat, slot}
+use Rattle.yaml_scan.specs.SlotLaws.{total}
+use Rattle.yaml_scan.specs.Steps.{one-most, unrolled-state}
+use Rattle.yaml_scan.specs.Budget.{on-news}
+use Rattle.theorems.specs.NestingSteps.{unrolled-in}
+use Rattle.yaml_stream.specs.Stream.{Called, Stream, after-news, behind, broken, closing, crowded, first-of, give, most-waiting, possible, ready, scanning, stepped, waits}
+use Rattle.yaml_stream.specs.Waits.{flat-length, waits-total}
+use Rattle.yaml_stream.specs.Totals.{total-if, total-then}
+use Rattle.yaml_stream.specs.Alone.{Absents, absents-drop, absents-not}
+use Rattle.yaml_stream.specs.Here.{Alone}
+use Rattle.yaml_stream.specs.Waiting.{Reaches, then-give as given}
+
+-- what stands next, behind the gap
+abbrev pub next-choice : State → Read Choice
+next-choice s = to-next-token s >>= λ t. got (choice (unrolled-state t))
+
+-- a step whose token is known by its first character
+step-at : {G : State → Type 0} {P : News → Type 0} (limits : Limits) (s : State) (c : Choice) → next-choice s ≡ got c → All State G (to-next-token s)
+    → ((v : State) → G v → All News (λ w. P (preceded (block-ends (unrolled v .ended) (mark-of v)) w)) (fetch limits c (unrolled-state v))) → All News P (step limits s)
+unfolding step _>>=_
+step-at {G} {P} limits s c e g h = by-gap g e
+  where
+    by-gap : {r : Read State} → All State G r → (r >>= λ v. got (choice (unrolled-state v))) ≡ got c
+        → All News P (r >>= λ v. fetch limits (choice (unrolled-state v)) (unrolled-state v) >>= λ n. got (preceded (block-ends (unrolled v .ended) (mark-of v)) n))
+    by-gap (holds {a = v} k) f =
+        let i : choice (unrolled-state v) ≡ c = cc in
+        rw i (all-bind _ (h v k) (λ w j. holds j))
+    by-gap not-read f = not-read
+
+-- in flow the gap changes neither candidates nor levels, and no block ends
+
+pub record Flows (s v : State) : Type 0 where
+  pub same-keys : v .keys ≡ s .keys
+  pub flows : in-flow v ≡ true
+  pub no-ends : unrolled v .ended ≡ 0
+
+lapse-flows : (s : State) (p : Place) (leads a : Bool) → in-flow s ≡ true → All State (Flows s) (lapse-key (at-place p leads (allow a s)))
+unfolding lapse-key in-flow
+lapse-flows s p leads b e =
+    let v = at-place p leads (allow b s) in
+    let f : Flows s v = record { same-keys = refl; flows = e; no-ends = ap (λ (u : Unrolled). u .ended) (unrolled-in v e) } in
+    rw (e, lapse-key) (holds f)
+
+gap-flows : (s : State) → in-flow s ≡ true → All State (Flows s) (to-next-token s)
+unfolding to-next-token
+gap-flows s e = all-bind _ (all-any _) (λ g _. lapse-flows s (g .place) (g .leading-whitespace) (g .simple-key-allowed) e)
+
+-- behind the step: how many tokens it says, and that it is still in flow, with no candidate further out
+pub record Stays (k : ℕ) (s : State) (es : List Event) (t : State) : Type 0 where
+  pub says : total es ≤ k
+  pub flows : in-flow t ≡ true
+  pub outer : Absents (drop 1 (s .keys)) → Absents (drop 1 (t .keys))
+
+-- a plain scalar
+
+abbrev Scalars : State → News → Type 0
+Scalars s (goes-on es t) = Stays 1 s es t
+Scalars s (ends-with es) = Unit {0}
+
+abbrev Saved : State → State → Type 0
+Saved s t = (in-flow t ≡ true) × (drop 1 (t .keys) ≡ drop 1 (s .keys))
+
+saved : (s : State) → in-flow s ≡ true → Saved s (save-key s)
+unfolding save-key in-flow
+saved s e = by-pick (Saved s) (s .simple-key-allowed) _ s (e, refl) (e, refl)
+
+ends-none : (n : ℕ) (m : Mark) (es : List Event) → n ≡ 0 → block-ends n m ++ es ≡ es
+ends-none n m es e = rw e
+
+scalar-fetched : (limits : Limits) (s v : State) → Flows s v → All News (λ w. Scalars s (preceded (block-ends (unrolled v .ended) (mark-of v)) w)) (fetch limits AtPlain (unrolled-state v))
+unfolding fetch fetch-plain-scalar total in-flow
+scalar-fetched limits s v f =
+    let u = unrolled-state v in
+    let h = saved u (f .flows) in
+    said (record {
+      says = rw (ends-none (unrolled v .ended) (mark-of v) (put (scan-plain-scalar (in-flow u) (u .place) .token) ∷ []) (f .no-ends)) (omega arith);
+      flows = h .0;
+      outer = λ k. rw (h .1, f .same-keys) k;
+    })
+  where
+    said : {es : List Event} {t : State} → Stays 1 s (block-ends (unrolled v .ended) (mark-of v) ++ es) t
+        → All News (λ w. Scalars s (preceded (block-ends (unrolled v .ended) (mark-of v)) w)) (got (goes-on es t))
+    said {es} {t} k = holds {a = goes-on es t} k
+
+pub scalar-stays : (limits : Limits) (s : State) → in-flow s ≡ true → next-choice s ≡ got AtPlain → All News (Scalars s) (step limits s)
+scalar-stays limits s e c = step-at limits s AtPlain c (gap-flows s e) (λ v f. scalar-fetched limits s v f)
+
+-- a ','
+
+abbrev Commas : State → News → Type 0
+Commas s (goes-on es t) = Stays 2 s es t × (Absents (drop 1 (s .keys)) → Absents (t .keys))
+Commas s (ends-with es) = Unit {0}
+
+abbrev flow-in : List Level → Bool
+flow-in ls = elim ls [ [] ↦ false | l ∷ ks ↦ true ]
+
+entry-flows : (ls : List Level) → flow-in ls ≡ true → flow-in (new-entry ls) ≡ true
+unfolding on-level
+entry-flows [] e = e
+entry-flows (l ∷ ls) e = refl
+
+comma-says : (b : Bool) (m : Mark) (t : Token) → total (empty-if b FlowMappingEnd m ++ (put t ∷ [])) ≤ 2
+comma-says b m t = omega (arith, total-then (empty-if b FlowMappingEnd m) t, total-if b FlowMappingEnd m, one-most b)
+
+comma-fetched : (limits : Limits) (s v : State) → Flows s v → All News (λ w. Commas s (preceded (block-ends (unrolled v .ended) (mark-of v)) w)) (fetch limits AtComma (unrolled-state v))
+unfolding fetch fetch-flow-entry remove-key in-flow
+comma-fetched limits s v f =
+    all-bind _ (all-any _) (λ l _. said (record {
+      says = rw (ends-none (unrolled v .ended) (mark-of v) (empty-if (implicit-open (v .levels)) FlowMappingEnd (mark-of v) ++ (put (l .token) ∷ [])) (f .no-ends))
+          (comma-says (implicit-open (v .levels)) (mark-of v) (l .token));
+      flows = entry-flows (v .levels) (f .flows);
+      outer = λ k. rw (f .same-keys) k;
+    }) (λ k. rw (f .same-keys) k))
+  where
+    said : {es : List Event} {t : State} → Stays 2 s (block-ends (unrolled v .ended) (mark-of v) ++ es) t → (Absents (drop 1 (s .keys)) → Absents (t .keys))
+        → All News (λ w. Commas s (preceded (block-ends (unrolled v .ended) (mark-of v)) w)) (got (goes-on es t))
+    said {es} {t} k a = holds {a = goes-on es t} (k, a)
+
+pub comma-stays : (limits : Limits) (s : State) → in-flow s ≡ true → next-choice s ≡ got AtComma → All News (Commas s) (step limits s)
+comma-stays limits s e c = step-at limits s AtComma c (gap-flows s e) (λ v f. comma-fetched limits s v f)
+
+-- the stream
+
+-- in flow, with no candidate further out: at most 2 tokens wait, or 4 and none is a possible key
+pub record Listed (s : State) (xs : List Slot) : Type 0 where
+  pub flows : in-flow s ≡ true
+  pub outer : Absents (drop 1 (s .keys))
+  pub few : (length (flat xs) ≤ 2) ⊎ (Absents (s .keys) × (length (flat xs) ≤ 4))
+
+abbrev pub InList : Stream → Type 0
+InList (scanning s n xs used) = Listed s xs
+InList (closing xs) = Unit {0}
+InList (broken k m) = Unit {0}
+
+-- the streams that calls come to in such a list: each entry is a scalar, or nothing, with a ',' behind it
+pub data Lists (limits : Limits) (room : ℕ) (x : Stream) : Stream → Type 0 where
+  here : Lists limits room x x
+  then-give : {y : Stream} → Lists limits room x y → Lists limits room x (give y .stream)
+  then-scalar : {s : State} {n used : ℕ} → Lists limits room x (scanning s n [] used) → next-choice s ≡ got AtPlain → Lists limits room x (stepped limits room (scanning s n [] used))
+  then-comma : {s : State} {n used : ℕ} {xs : List Slot} → Lists limits room x (scanning s n xs used) → ready (scanning s n xs used) ≡ false → next-choice s ≡ got AtComma
+      → Lists limits room x (stepped limits room (scanning s n xs used))
+
+-- a token is given
+
+-- fewer wait
+pub listed-fewer : (s : State) (xs ys : List Slot) → length (flat ys) ≤ length (flat xs) → Listed s xs → Listed s ys
+listed-fewer s xs ys l h = record { flows = h .flows; outer = h .outer; few = by-few (h .few) }
+  where
+    by-few : (length (flat xs) ≤ 2) ⊎ (Absents (s .keys) × (length (flat xs) ≤ 4)) → (length (flat ys) ≤ 2) ⊎ (Absents (s .keys) × (length (flat ys) ≤ 4))
+    by-few (inl b) = inl (omega arith)
+    by-few (inr b) = inr (b .0, omega (arith, b .1))
+
+first-listed : (s : State) (n : ℕ) (bs : List Token) (t : Token) (xs : List Slot) (used : ℕ) → Listed s (slot t bs ∷ xs) → InList (first-of (λ k ys. scanning s k ys used) n bs t xs .stream)
+unfolding first-of
+first-listed s n [] t xs used h = listed-fewer s (slot t [] ∷ xs) xs (omega (arith, flat-length (slot t []) xs)) h
+first-listed s n (b ∷ bs) t xs used h =
+    listed-fewer s (slot t (b ∷ bs) ∷ xs) (slot t bs ∷ xs) (omega (arith, flat-length (slot t (b ∷ bs)) xs, flat-length (slot t bs) xs)) h
+
+first-closed : (bs : List Token) (t : Token) (xs : List Slot) → InList (first-of (λ _ ys. closing ys) 0 bs t xs .stream)
+unfolding first-of
+first-closed [] t xs = tt
+first-closed (b ∷ bs) t xs = tt
+
+give-listed : (x : Stream) → InList x → InList (give x .stream)
+unfolding give
+give-listed (scanning s n [] used) h = h
+give-listed (scanning s n (x ∷ xs) used) h =
+    by-test (possible n (s .keys)) (λ e. rw (e, give) h) (λ e. rw (e, give) (first-listed s n (x .before) (x .token) xs used h))
+give-listed (closing []) h = tt
+give-listed (closing (x ∷ xs)) h = first-closed (x .before) (x .token) xs
+give-listed (broken k m) h = tt
+
+-- a step
+
+behind-listed : (room : ℕ) (s : State) (n : ℕ) (xs : List Slot) (used : ℕ) → Listed s xs → InList (behind room s n xs used)
+unfolding behind
+behind-listed room s n xs used h =
+    by-test (ltb room used)
+    (λ e. rw (e, behind) tt)
+    (λ e. by-test (crowded s n xs) (λ f. rw (e, f, behind) tt) (λ f. rw (e, f, behind) h))
+
+-- so at most 2 wait before a step
+few-before : (s : State) (n used : ℕ) (xs : List Slot) → Listed s xs → ready (scanning s n xs used) ≡ false → length (flat xs) ≤ 2
+unfolding ready flat
+few-before s n used [] h r = omega arith
+few-before s n used (x ∷ xs) h r = by-few (h .few)
+  where
+    by-few : (length (flat (x ∷ xs)) ≤ 2) ⊎ (Absents (s .keys) × (length (flat (x ∷ xs)) ≤ 4)) → length (flat (x ∷ xs)) ≤ 2
+    by-few (inl b) = b
+    by-few (inr b) = true-false (rw (absents-not n (s .keys) (b .0)) at r)
+
+pub scalar-listed : (s : State) (n : ℕ) (xs : List Slot) (es : List Event) (t : State) → Listed s xs → length (flat xs) ≡ 0 → Stays 1 s es t → Listed t (waits n xs es)
+scalar-listed s n xs es t h z k = record { flows = k .flows; outer = k .outer (h .outer); few = inl (omega (arith, waits-total n xs es, k .says)) }
+
+pub comma-listed : (s : State) (n used : ℕ) (xs : List Slot) (es : List Event) (t : State) → Listed s xs → ready (scanning s n xs used) ≡ false → Commas s (goes-on es t) → Listed t (waits n xs es)
+comma-listed s n used xs es t h r k =
+    record {
+      flows = k .0 .flows;
+      outer = k .0 .outer (h .outer);
+      few = inr (k .1 (h .outer), omega (arith, waits-total n xs es, k .0 .says, few-before s n used xs h r));
+    }
+
+pub lists-in : (limits : Limits) (room : ℕ) {x y : Stream} → InList x → Lists limits room x y → InList y
+unfolding stepped flat
+lists-in limits room h here = h
+lists-in limits room h (then-give {y = y} r) = give-listed y (lists-in limits room h r)
+lists-in limits room h (then-scalar {s = s} {n = n} {used = used} r c) =
+    let k = lists-in limits room h r in
+    on-news (λ w. InList (after-news room n [] used w)) (scalar-stays limits s (k .flows) c)
+    (λ es t i. behind-listed room t n (waits n [] es) _ (scalar-listed s n [] es t k refl i)) (λ _ _. tt) (λ _ _. tt)
+lists-in limits room h (then-comma {s = s} {n = n} {used = used} {xs = xs} r e c) =
+    let k = lists-in limits room h r in
+    on-news (λ w. InList (after-news room n xs used w)) (comma-stays limits s (k .flows) c)
+    (λ es t i. behind-listed room t n (waits n xs es) _ (comma-listed s n used xs es t k e i)) (λ _ _. tt) (λ _ _. tt)
+
+-- at most 4 wait, so the step that came to them was no 51
+
+pub listed-few : (s : State) (xs : List Slot) → Listed s xs → length (flat xs) ≤ 4
+listed-few s xs h = by-few (h .few)
+  where
+    by-few : (length (flat xs) ≤ 2) ⊎ (Absents (s .keys) × (length (flat xs) ≤ 4)) → length (flat xs) ≤ 4
+    by-few (inl b) = omega arith
+    by-few (inr b) = b .1
+
+pub not-crowded : (s : State) (n : ℕ) (xs : List Slot) → length (flat xs) ≤ 4 → crowded s n xs ≡ false
+unfolding crowded
+not-crowded s n xs b = rw (le-ltb most-waiting (length (flat xs)) (omega arith))
+
+pub four-wait : (limits : Limits) (room : ℕ) {x : Stream} {s : State} {n used : ℕ} {xs : List Slot} → InList x → Lists limits room x (scanning s n xs used) → length (flat xs) ≤ 4
+four-wait limits room {s = s} {xs = xs} h r = listed-few s xs (lists-in limits room h r)
+
+pub scalar-no-51 : (limits : Limits) (room : ℕ) {x : Stream} {s : State} {n used : ℕ} → InList x → Lists limits room x (scanning s n [] used) → next-choice s ≡ got AtPlain
+    → (es : List Event) (t : State) → step limits s ≡ got (goes-on es t) → crowded t n (waits n [] es) ≡ false
+unfolding flat
+scalar-no-51 limits room {s = s} {n = n} h r c es t e =
+    let k = lists-in limits room h r in
+    not-crowded t n (waits n [] es) (listed-few t (waits n [] es) (scalar-listed s n [] es t k refl (all-got (scalar-stays limits s (k .flows) c) e)))
+
+pub comma-no-51 : (limits : Limits) (room : ℕ) {x : Stream} {s : State} {n used : ℕ} {xs : List Slot} → InList x → Lists limits room x (scanning s n xs used)
+    → ready (scanning s n xs used) ≡ false → next-choice s ≡ got AtComma → (es : List Event) (t : State) → step limits s ≡ got (goes-on es t) → crowded t n (waits n xs es) ≡ false
+comma-no-51 limits room {s = s} {n = n} {used = used} {xs = xs} h r f c es t e =
+    let k = lists-in limits room h r in
+    not-crowded t n (waits n xs es) (listed-few t (waits n xs es) (comma-listed s n used xs es t k f (all-got (comma-stays limits s (k .flows) c) e)))
+
+-- the list's end: no candidate is left, so all that waits is given
+
+abbrev Closing : State → News → Type 0
+Closing s (goes-on es t) = Absents (drop 1 (s .keys)) → Absents (t .keys)
+Closing s (ends-with es) = Unit {0}
+
+close-fetched : (limits : Limits) (sequence : Bool) (s v : State) → Flows s v
+    → All News (λ w. Closing s (preceded (block-ends (unrolled v .ended) (mark-of v)) w)) (fetch limits (Closes sequence) (unrolled-state v))
+unfolding fetch fetch-flow-collection-end remove-key
+close-fetched limits sequence s v f =
+    all-need _ _ _ _ (all-bind _ (all-any _) (λ l _. said (λ k. rw (f .same-keys) k)))
+  where
+    said : {es : List Event} {t : State} → (Absents (drop 1 (s .keys)) → Absents (t .keys))
+        → All News (λ w. Closing s (preceded (block-ends (unrolled v .ended) (mark-of v)) w)) (got (goes-on es t))
+    said {es} {t} a = holds {a = goes-on es t} a
+
+pub close-no-51 : (limits : Limits) (sequence : Bool) (s : State) (n : ℕ) (xs : List Slot) → Listed s xs → next-choice s ≡ got (Closes sequence)
+    → (es : List Event) (t : State) → step limits s ≡ got (goes-on es t) → crowded t n (waits n xs es) ≡ false
+unfolding crowded
+close-no-51 limits sequence s n xs h c es t e =
+    let a = all-got (step-at {P = Closing s} limits s (Closes sequence) c (gap-flows s (h .flows)) (λ v f. close-fetched limits sequence s v f)) e in
+    rw (absents-not n (t .keys) (a (h .outer))) (and-false (ltb most-waiting (length (flat (waits n xs es)))))
+  where
+    and-false : (b : Bool) → (b && false) ≡ false
+    and-false true = refl
+    and-false false = refl
+
+-- the list's start: '[' where no simple key is allowed and none is possible, as on its key's line
+
+abbrev Opening : News → Type 0
+Opening (goes-on es t) = (in-flow t ≡ true) × Absents (t .keys)
+Opening (ends-with es) = Unit {0}
+
+stack-keys : (limits : Limits) (s : State) → All State (λ t. t .keys ≡ s .keys) (stack-bracket limits s)
+unfolding stack-bracket
+stack-keys limits s =
+    by-test (not (in-flow s) && top-ends (s .indents .entries))
+    (λ e. rw (e, stack-bracket) (all-bind _ (all-any _) (λ i _. holds refl)))
+    (λ e. rw (e, stack-bracket) (holds refl))
+
+not-saved : (s : State) → s .simple-key-allowed ≡ false → save-key s ≡ s
+unfolding save-key
+not-saved s e = rw e
+
+open-fetched : (limits : Limits) (sequence : Bool) (s : State) (bs : List Event) → s .simple-key-allowed ≡ false → Absents (s .keys)
+    → All News (λ w. Opening (preceded bs w)) (fetch limits (Opens sequence) s)
+unfolding fetch fetch-flow-collection-start in-flow
+open-fetched limits sequence s bs e h =
+    rw (not-saved s e) (all-bind _ (stack-keys limits s) (λ t k. all-need _ _ _ _ (all-bind _ (all-any _) (λ l _. said refl (rw k h)))))
+  where
+    said : {es : List Event} {t : State} → in-flow t ≡ true → Absents (t .keys) → All News (λ w. Opening (preceded bs w)) (got (goes-on es t))
+    said {es} {t} f a = holds {a = goes-on es t} (f, a)
+
+-- behind the gap the state is v
+pub opens-list : (limits : Limits) (sequence : Bool) (s v : State) → to-next-token s ≡ got v → choice (unrolled-state v) ≡ Opens sequence → v .simple-key-allowed ≡ false → Absents (v .keys)
+    → All News Opening (step limits s)
+unfolding step _>>=_
+opens-list limits sequence s v e c f h =
+    rw (e, c) (all-bind _ (open-fetched limits sequence (unrolled-state v) (block-ends (unrolled v .ended) (mark-of v)) f h) (λ w k. holds k))
+
+-- no candidate is left, so what waits is given, and the list begins
+pub opened-listed : (s : State) → in-flow s ≡ true → Absents (s .keys) → Listed s []
+unfolding flat
+opened-listed s e h = record { flows = e; outer = absents-drop (s .keys) h; few = inl (omega arith) }
+
+-- and so it is behind a ':' that used up the candidate of level 0
+
+abbrev Used : List Candidate → News → Type 0
+Used ks (goes-on es t) = (t .simple-key-allowed ≡ false) × (t .keys ≡ set-key Absent ks)
+Used ks (ends-with es) = Unit {0}
+
+value-fetched : (limits : Limits) (s : State) (bs : List Event) (required : Bool) (n : ℕ) (m : Mark) → top-key (s .keys) ≡ Possible required n m
+    → All News (λ w. Used (s .keys) (preceded bs w)) (fetch limits AtColon s)
+unfolding fetch value-by value-with
+value-fetched limits s bs required n m e = rw (e, value-by) (all-bind _ (all-any _) (λ r _. said refl refl))
+  where
+    said : {es : List Event} {t : State} → t .simple-key-allowed ≡ false → t .keys ≡ set-key Absent (s .keys) → All News (λ w. Used (s .keys) (preceded bs w)) (got (goes-on es t))
+    said {es} {t} f a = holds {a = goes-on es t} (f, a)
+
+pub colon-uses : (limits : Limits) (s v : State) (required : Bool) (n : ℕ) (m : Mark) → to-next-token s ≡ got v → choice (unrolled-state v) ≡ AtColon → top-key (v .keys) ≡ Possible required n m
+    → All News (Used (v .keys)) (step limits s)
+unfolding step _>>=_
+colon-uses limits s v required n m e c k =
+    rw (e, c) (all-bind _ (value-fetched limits (unrolled-state v) (block-ends (unrolled v .ended) (mark-of v)) required n m k) (λ w j. holds j))
+
+-- from the ':' to the list's first entry
+
+gives-first : (s : State) (k used : ℕ) (z : Slot) (zs : List Slot) → Absents (s .keys)
+    → give (scanning s k (z ∷ zs) used) ≡ first-of (λ j ws. scanning s j ws used) k (z .before) (z .token) zs
+unfolding give
+gives-first s k used z zs h = rw (absents-not k (s .keys) h, give)
+
+slot-given : (limits : Limits) (room : ℕ) {x : Stream} (s : State) (k used : ℕ) (bs : List Token) (t : Token) (ys : List Slot) → Absents (s .keys)
+    → Reaches limits room x (scanning s k (slot t bs ∷ ys) used) → Reaches limits room x (scanning s (suc k) ys used)
+unfolding first-of
+slot-given limits room s k used [] t ys h r =
+    let e = ap (λ (c : Called). c .stream) (gives-first s k used (slot t []) ys h) in
+    rw e at (given r)
+slot-given limits room s k used (b ∷ bs) t ys h r =
+    let e = ap (λ (c : Called). c .stream) (gives-first s k used (slot t (b ∷ bs)) ys h) in
+    slot-given limits room s k used bs t ys h (rw e at (given r))
+
+-- where no candidate is left, all that waits is given, without a step
+pub drained : (limits : Limits) (room : ℕ) {x : Stream} (s : State) (n used : ℕ) (xs : List Slot) → Absents (s .keys) → Reaches limits room x (scanning s n xs used)
+    → (k : ℕ) × Reaches limits room x (scanning s k [] used)
+drained limits room s n used [] h r = (n, r)
+drained limits room s n used (y ∷ ys) h r = drained limits room s (suc n) used ys h (slot-given limits room s n used (y .before) (y .token) ys h r)
+
+-- over a gap none comes
+
+lapse-none : (m : Mark) (ks : List Candidate) → Absents ks → All Candidate (λ c. c ≡ Absent) (lapse m (top-key ks))
+unfolding lapse top-key
+lapse-none m [] h = holds refl
+lapse-none m (Absent ∷ ks) h = holds refl
+lapse-none m (Possible required k i ∷ ks) h = absurd h
+
+lapse-absents : (s : State) (p : Place) (leads b : Bool) → Absents (s .keys) → All State (λ v. Absents (v .keys)) (lapse-key (at-place p leads (allow b s)))
+unfolding lapse-key in-flow
+lapse-absents s p leads b h =
+    by-test (in-flow s)
+    (λ e. rw (e, lapse-key) (holds {a = at-place p leads (allow b s)} h))
+    (λ e. rw (e, lapse-key) (all-is _ (lapse-none (p .mark) (s .keys) h) (holds {a = with-keys (set-key Absent (s .keys)) (at-place p leads (allow b s))} (absents-drop (s .keys) h))))
+
+gap-absents : (s : State) → Absents (s .keys) → All State (λ v. Absents (v .keys)) (to-next-token s)
+unfolding to-next-token
+gap-absents s h = all-bind _ (all-any _) (λ g _. lapse-absents s (g .place) (g .leading-whitespace) (g .simple-key-allowed) h)
+
+-- a key's ':' at level 0 and a bracket on its line: from the state s, before the ':', to the state u, behind the bracket
+pub record KeyLine (limits : Limits) (s u : State) : Type 0 where
+  -- behind the gap, at a ':' that has a candidate
+  pub at-colon : State
+  pub first-gap : to-next-token s ≡ got at-colon
+  pub colon : choice (unrolled-state at-colon) ≡ AtColon
+  pub outside : in-flow at-colon ≡ false
+  pub alone : Alone at-colon
+  pub required : Bool
+  pub number : ℕ
+  pub mark : Mark
+  pub candidate : top-key (at-colon .keys) ≡ Possible required number mark
+  -- behind the ':'
+  pub value : State
+  pub first-events : List Event
+  pub first-step : step limits s ≡ got (goes-on first-events value)
+  -- behind the gap, which passes over no break and so allows no key, at the bracket
+  pub at-bracket : State
+  pub second-gap : to-next-token value ≡ got at-bracket
+  pub forbidden : at-bracket .simple-key-allowed ≡ false
+  pub sequence : Bool
+  pub bracket : choice (unrolled-state at-bracket) ≡ Opens sequence
+  pub second-events : List Event
+  pub second-step : step limits value ≡ got (goes-on second-events u)
+
+-- no candidate is left behind it: what waits is given, and the list stands before its first entry
+pub on-key-line : {limits : Limits} {s u : State} {x : Stream} {n used : ℕ} {xs : List Slot} (room : ℕ) → KeyLine limits s u → Reaches limits room x (scanning u n xs used)
+    → (k : ℕ) × Reaches limits room x (scanning u k [] used) × Listed u []
+on-key-line {limits} {s} {u} {n = n} {used = used} {xs = xs} room l r =
+    let c = all-got (colon-uses limits s (l .at-colon) (l .required) (l .number) (l .mark) (l .first-gap) (l .colon) (l .candidate)) (l .first-step) in
+    let none : Absents (l .value .keys) = rw (c .1) (l .alone (l .outside)) in
+    let still = all-got (gap-absents (l .value) none) (l .second-gap) in
+    let o = all-got (opens-list limits (l .sequence) (l .value) (l .at-bracket) (l .second-gap) (l .bracket) (l .forbidden) still) (l .second-step) in
+    let d = drained limits room u n used xs (o .1) r in
+    (d .0, d .1, opened-listed u (o .0) (o .1))

@@ -1,0 +1,258 @@
+-- In every stream that calls come to, at most 4,096 tokens wait before a scanning step; and where 51 is answered. (Behind a step: Tight.)
+use Prim.Native.Nat.{_+_, _/_, _≤_, suc, zero, ℕ}
+use mathlib.Core.Bool.{Bool, false, not, true}
+use mathlib.Core.List.{List, [], _++_, _∷_}
+use mathlib.Core.Logic.{_⊎_, inl, inr}
+use mathlib.Core.Path.{_∙_, _≡_, ap, refl, sym}
+use native.Mathlib.Omega.{arith}
+use lib.Dec.{eqb, ltb}
+use lib.ListN.{length}
+use borrow.Author.Tests.{eqb-true, ltb-false}
+use Rattle.yaml_text.specs.Refusal.{Read, got, refused}
+use Rattle.yaml_text.specs.Mark.{origin}
+use Rattle.yaml_text.specs.Decode.{decode}
+use Rattle.yaml_text.specs.Test.{both-true, by-test, true-false}
+use Rattle.yaml_text.specs.All.{all-both, all-got}
+use Rattle.yaml_lexeme.specs.Token.{Token}
+use Rattle.yaml_lexeme.specs.Record.{record-words}
+use Rattle.yaml_scan.specs.declared.Candidate.{Candidate}
+use Rattle.yaml_scan.specs.declared.Candidate.the-variants.{Absent, Possible}
+use Rattle.yaml_scan.specs.declared.Limits.{Limits}
+use Rattle.yaml_scan.specs.State.{Event, State, goes-on, mark-of, put}
+use Rattle.yaml_scan.specs.Scan.{step}
+use Rattle.yaml_scan.specs.Slots.{Slot, flat, slot, slots}
+use Rattle.yaml_scan.specs.Candidates.{Fall}
+use Rattle.yaml_scan.specs.Budget.{on-news}
+use Rattle.yaml_stream.specs.Stream.{Stream, after-news, begun, behind, broken, budget, call, closing, crowded, first-of, fresh, give, least-records, most-waiting, possible, ready, scanning, sought, stepped, waits}
+use Rattle.yaml_stream.specs.Kept.{From, step-keeps}
+use Rattle.yaml_stream.specs.Waits.{flat-length, from-next, waits-append, waits-length}
+use Rattle.yaml_stream.specs.Depth.{depth, step-shallow}
+use Rattle.yaml_stream.specs.Alone.{Absents, Holds, absents-not, holds-none, holds-possible, step-last}
+use Rattle.yaml_stream.specs.Here.{Behind, Levelled, levelled-alone, step-behind, step-levelled}
+
+-- the only token that may be a key is the last that waits, and nothing goes in before it yet
+pub record Ahead (s : State) (n : ℕ) (xs : List Slot) : Type 0 where
+  pub others : List Slot
+  pub last : Token
+  pub is : xs ≡ others ++ (slot last [] ∷ [])
+  pub later : From (n + length others) (s .keys)
+
+abbrev pub Few : State → ℕ → List Slot → Type 0
+Few s n xs = (length (flat xs) ≤ most-waiting) ⊎ Ahead s n xs
+
+pub record Held (limits : Limits) (s : State) (n : ℕ) (xs : List Slot) : Type 0 where
+  pub from : From n (s .keys)
+  pub counted : n + length xs ≡ s .count
+  pub falls : Fall (s .count) (s .keys)
+  pub shallow : depth s ≤ limits .entries
+  pub levelled : Levelled (s .keys) (s .levels)
+  pub few : Few s n xs
+
+abbrev pub Keeps : Limits → Stream → Type 0
+Keeps limits (scanning s n xs used) = Held limits s n xs
+Keeps limits (closing xs) = Unit {0}
+Keeps limits (broken k m) = Unit {0}
+
+-- before a step
+
+from-possible : (k n : ℕ) (ks : List Candidate) → From k ks → possible n ks ≡ true → k ≤ n
+unfolding possible
+from-possible k n [] h e = true-false (sym e)
+from-possible k n (Absent ∷ ks) h e = from-possible k n ks h e
+from-possible k n (Possible required j m ∷ ks) h e =
+    by-test (eqb n j)
+    (λ i. let g = eqb-true n j i in omega (arith, h .0))
+    (λ i. from-possible k n ks (h .1) (rw i at e))
+
+pub not-false : (b : Bool) → not b ≡ false → b ≡ true
+not-false true e = refl
+not-false false e = true-false e
+
+one-waits : (n : ℕ) (s : State) (xs others : List Slot) (last : Token) → xs ≡ others ++ (slot last [] ∷ []) → n + length others ≤ n → length (flat xs) ≤ most-waiting
+unfolding flat
+one-waits n s xs [] last e b = rw e (omega arith)
+one-waits n s xs (y ∷ ys) last e b = absurd (omega arith)
+
+pub few-before : {limits : Limits} {s : State} {n : ℕ} {xs : List Slot} (used : ℕ) → Held limits s n xs → ready (scanning s n xs used) ≡ false → length (flat xs) ≤ most-waiting
+unfolding ready flat
+few-before {s = s} {n = n} {xs = xs} used h r = by-slots xs refl
+  where
+    by-few : possible n (s .keys) ≡ true → Few s n xs → length (flat xs) ≤ most-waiting
+    by-few e (inl b) = b
+    by-few e (inr a) = one-waits n s xs (a .others) (a .last) (a .is) (from-possible (n + length (a .others)) n (s .keys) (a .later) e)
+
+    by-slots : (ys : List Slot) → xs ≡ ys → length (flat xs) ≤ most-waiting
+    by-slots [] e = rw e (omega arith)
+    by-slots (y ∷ ys) e = by-few (not-false (possible n (s .keys)) (rw e at r)) (h .few)
+
+-- the first waiting token is a candidate, or none waits
+holds-before : {limits : Limits} {s : State} {n : ℕ} {xs : List Slot} (used : ℕ) → Held limits s n xs → ready (scanning s n xs used) ≡ false → Holds n (s .keys)
+unfolding ready
+holds-before {s = s} {n = n} {xs = xs} used h r = by-slots xs refl
+  where
+    by-slots : (ys : List Slot) → xs ≡ ys → Holds n (s .keys)
+    by-slots [] e =
+        let c = rw e at (h .counted) in
+        let f : s .count ≡ n = omega arith in
+        holds-none n (s .keys) (h .from) (rw f at (h .falls))
+    by-slots (y ∷ ys) e = holds-possible n (s .count) (s .keys) (h .from) (h .falls) (not-false (possible n (s .keys)) (rw e at r))
+
+-- a step
+
+not-crowded : (s : State) (n : ℕ) (xs : List Slot) → crowded s n xs ≡ false → possible n (s .keys) ≡ true → length (flat xs) ≤ most-waiting
+unfolding crowded
+not-crowded s n xs e p =
+    by-test (ltb most-waiting (length (flat xs)))
+    (λ k. true-false (rw (k, p) at e))
+    (λ k. ltb-false most-waiting (length (flat xs)) k)
+
+behind-keeps : (limits : Limits) (room : ℕ) (s : State) (n : ℕ) (xs : List Slot) (used : ℕ) → (crowded s n xs ≡ false → Held limits s n xs) → Keeps limits (behind room s n xs used)
+unfolding behind
+behind-keeps limits room s n xs used h =
+    by-test (ltb room used)
+    (λ e. rw (e, behind) tt)
+    (λ e. by-test (crowded s n xs) (λ f. rw (e, f, behind) tt) (λ f. rw (e, f, behind) (h f)))
+
+few-behind : (s : State) (n k : ℕ) (xs others : List Slot) (last : Token) → xs ≡ others ++ (slot last [] ∷ []) → k ≡ n + length others → crowded s n xs ≡ false
+    → (possible n (s .keys) ≡ true) ⊎ From k (s .keys) → Few s n xs
+few-behind s n k xs others last e f c (inl p) = inl (not-crowded s n xs c p)
+few-behind s n k xs others last e f c (inr h) = inr (record { others = others; last = last; is = e; later = rw f at h })
+
+waits-then : (n : ℕ) (xs : List Slot) (es front : List Event) (last : Token) → es ≡ front ++ (put last ∷ []) → waits n xs es ≡ waits n xs front ++ (slot last [] ∷ [])
+unfolding waits slots
+waits-then n xs es front last e = ap (λ (fs : List Event). waits n xs fs) e ∙ waits-append n xs front (put last ∷ [])
+
+scanned-keeps : (limits : Limits) (room : ℕ) (s : State) (n : ℕ) (xs : List Slot) (used : ℕ) → Held limits s n xs → ready (scanning s n xs used) ≡ false
+    → Keeps limits (after-news room n xs used (step limits s))
+scanned-keeps limits room s n xs used h r =
+    on-news (λ w. Keeps limits (after-news room n xs used w))
+    (all-both (step-keeps n limits s (omega (arith, h .counted)) (h .from)) (all-both (step-last n limits s) (all-both (step-shallow limits s (h .shallow)) (step-levelled limits s (h .levelled)))))
+    (λ es t i.
+    let k = i .1 .0 in
+    let l = k .1 in
+    behind-keeps limits room t n (waits n xs es) _ (λ c. record {
+      from = i .0 .1;
+      counted = omega (arith, waits-length n xs es, i .0 .2, h .counted);
+      falls = rw (k .2) (l .falls (h .falls));
+      shallow = i .1 .1 .0;
+      levelled = i .1 .1 .1;
+      few = few-behind t n (k .0) (waits n xs es) (waits n xs (l .front)) (l .last) (waits-then n xs es (l .front) (l .last) (l .is))
+          (omega (arith, l .numbered, waits-length n xs (l .front), h .counted)) c (l .alone (holds-before used h r));
+    }))
+    (λ _ _. tt) (λ _ _. tt)
+
+pub stepped-keeps : (limits : Limits) (room : ℕ) (x : Stream) → Keeps limits x → ready x ≡ false → Keeps limits (stepped limits room x)
+unfolding stepped
+stepped-keeps limits room (scanning s n xs used) h r = scanned-keeps limits room s n xs used h r
+stepped-keeps limits room (closing xs) h r = tt
+stepped-keeps limits room (broken k m) h r = tt
+
+-- a token is given
+
+few-given : (s : State) (n : ℕ) (t : Token) (xs : List Slot) → Few s n (slot t [] ∷ xs) → Few s (suc n) xs
+unfolding flat
+few-given s n t xs (inl b) = inl (omega (arith, flat-length (slot t []) xs))
+few-given s n t xs (inr a) = by-others (a .others) (a .is) (a .later)
+  where
+    by-others : (ys : List Slot) → slot t [] ∷ xs ≡ ys ++ (slot (a .last) [] ∷ []) → From (n + length ys) (s .keys) → Few s (suc n) xs
+    by-others [] e f = let g : xs ≡ [] = cc in inl (rw g (omega arith))
+    by-others (y ∷ ys) e f =
+        let g : xs ≡ ys ++ (slot (a .last) [] ∷ []) = cc in
+        let k : n + length (y ∷ ys) ≡ suc n + length ys = omega arith in
+        inr (record { others = ys; last = a .last; is = g; later = rw k at f })
+
+-- one of those put in before a slot's token
+few-part : (s : State) (n : ℕ) (t b : Token) (bs : List Token) (xs : List Slot) → Few s n (slot t (b ∷ bs) ∷ xs) → Few s n (slot t bs ∷ xs)
+few-part s n t b bs xs (inl h) = inl (omega (arith, flat-length (slot t (b ∷ bs)) xs, flat-length (slot t bs) xs))
+few-part s n t b bs xs (inr a) = by-others (a .others) (a .is) (a .later)
+  where
+    by-others : (ys : List Slot) → slot t (b ∷ bs) ∷ xs ≡ ys ++ (slot (a .last) [] ∷ []) → From (n + length ys) (s .keys) → Few s n (slot t bs ∷ xs)
+    by-others [] e f =
+        let g : slot t (b ∷ bs) ≡ slot (a .last) [] = cc in
+        let k : b ∷ bs ≡ [] = ap (λ (x : Slot). x .before) g in
+        let z : _≡_ {A = ℕ} 0 1 = cc in
+        absurd (omega arith)
+    by-others (y ∷ ys) e f =
+        let g : xs ≡ ys ++ (slot (a .last) [] ∷ []) = cc in
+        inr (record { others = slot t bs ∷ ys; last = a .last; is = ap (λ (zs : List Slot). slot t bs ∷ zs) g; later = f })
+
+first-keeps : (limits : Limits) (s : State) (n : ℕ) (bs : List Token) (t : Token) (xs : List Slot) (used : ℕ) → Held limits s n (slot t bs ∷ xs) → possible n (s .keys) ≡ false
+    → Keeps limits (first-of (λ k ys. scanning s k ys used) n bs t xs .stream)
+unfolding first-of
+first-keeps limits s n [] t xs used h e =
+    record { from = from-next n (s .keys) (h .from) e; counted = omega (arith, h .counted); falls = h .falls; shallow = h .shallow; levelled = h .levelled; few = few-given s n t xs (h .few) }
+first-keeps limits s n (b ∷ bs) t xs used h e =
+    record { from = h .from; counted = h .counted; falls = h .falls; shallow = h .shallow; levelled = h .levelled; few = few-part s n t b bs xs (h .few) }
+
+first-closes : (limits : Limits) (bs : List Token) (t : Token) (xs : List Slot) → Keeps limits (first-of (λ _ ys. closing ys) 0 bs t xs .stream)
+unfolding first-of
+first-closes limits [] t xs = tt
+first-closes limits (b ∷ bs) t xs = tt
+
+pub give-keeps : (limits : Limits) (x : Stream) → Keeps limits x → Keeps limits (give x .stream)
+unfolding give
+give-keeps limits (scanning s n [] used) h = h
+give-keeps limits (scanning s n (x ∷ xs) used) h =
+    by-test (possible n (s .keys)) (λ e. rw (e, give) h) (λ e. rw (e, give) (first-keeps limits s n (x .before) (x .token) xs used h e))
+give-keeps limits (closing []) h = tt
+give-keeps limits (closing (x ∷ xs)) h = first-closes limits (x .before) (x .token) xs
+give-keeps limits (broken k m) h = tt
+
+-- a fresh state
+
+begun-keeps : (limits : Limits) (words : ℕ) (cs : List ℕ) → Keeps limits (begun words cs)
+unfolding begun flat
+begun-keeps limits words cs =
+    by-test (ltb (words / record-words) least-records)
+    (λ e. rw (e, begun) tt)
+    (λ e. rw (e, begun) (record { from = tt; counted = refl; falls = tt; shallow = omega arith; levelled = refl; few = inl (omega arith) }))
+
+pub fresh-keeps : (limits : Limits) (bytes : List ℕ) (words : ℕ) → Keeps limits (fresh limits bytes words)
+unfolding fresh
+fresh-keeps limits bytes words =
+    by-test (ltb (limits .bytes) (length bytes)) (λ e. rw (e, fresh) tt) (λ e. rw (e, fresh) (by-text (decode 0 origin bytes)))
+  where
+    by-text : (r : Read (List ℕ)) → Keeps limits (elim r [ got cs ↦ begun words cs | refused k m ↦ broken k m ])
+    by-text (got cs) = begun-keeps limits words cs
+    by-text (refused k m) = tt
+
+-- the streams that calls come to, within them too: a step where the first waiting token is none yet, or a possible key; else a token is given
+pub data Reaches (limits : Limits) (room : ℕ) (x : Stream) : Stream → Type 0 where
+  here : Reaches limits room x x
+  then-step : {y : Stream} → Reaches limits room x y → ready y ≡ false → Reaches limits room x (stepped limits room y)
+  then-give : {y : Stream} → Reaches limits room x y → Reaches limits room x (give y .stream)
+
+pub reaches-keeps : (limits : Limits) (room : ℕ) {x y : Stream} → Keeps limits x → Reaches limits room x y → Keeps limits y
+reaches-keeps limits room h here = h
+reaches-keeps limits room h (then-step {y = y} r e) = stepped-keeps limits room y (reaches-keeps limits room h r) e
+reaches-keeps limits room h (then-give {y = y} r) = give-keeps limits y (reaches-keeps limits room h r)
+
+-- a call is such steps and then a gift
+pub sought-reaches : (limits : Limits) (room k : ℕ) {x : Stream} (y : Stream) → Reaches limits room x y → Reaches limits room x (sought limits room k y)
+unfolding sought
+sought-reaches limits room zero y r = r
+sought-reaches limits room (suc k) y r =
+    by-test (ready y) (λ e. rw (e, sought) r) (λ e. rw (e, sought) (sought-reaches limits room k (stepped limits room y) (then-step r e)))
+
+pub call-reaches : (limits : Limits) (room : ℕ) {x : Stream} (y : Stream) → Reaches limits room x y → Reaches limits room x (call limits room y .stream)
+unfolding call
+call-reaches limits room y r = then-give (sought-reaches limits room (budget y) y r)
+
+-- before each scanning step at most 4,096 tokens wait
+pub waiting-before : (limits : Limits) (bytes : List ℕ) (words room : ℕ) {s : State} {n used : ℕ} {xs : List Slot}
+    → Reaches limits room (fresh limits bytes words) (scanning s n xs used) → ready (scanning s n xs used) ≡ false → length (flat xs) ≤ most-waiting
+waiting-before limits bytes words room {used = used} r e = few-before used (reaches-keeps limits room (fresh-keeps limits bytes words) r) e
+
+-- where 51 is answered, the current mark is the end of the token that the step scanned
+pub crowded-mark : (limits : Limits) (bytes : List ℕ) (words room : ℕ) {s : State} {n used : ℕ} {xs : List Slot}
+    → Reaches limits room (fresh limits bytes words) (scanning s n xs used) → (es : List Event) (t : State) → step limits s ≡ got (goes-on es t)
+    → crowded t n (waits n xs es) ≡ true → (fs : List Event) × (k : Token) × (es ≡ fs ++ (put k ∷ [])) × (k .end ≡ mark-of t)
+unfolding crowded
+crowded-mark limits bytes words room {s = s} {n = n} {xs = xs} r es t e c =
+    let h = reaches-keeps limits room (fresh-keeps limits bytes words) r in
+    let b : Behind (goes-on es t) = all-got (step-behind limits s (levelled-alone s (h .levelled))) e in
+    (b .0, b .1, b .2, by-mark (b .1) (both-true (ltb most-waiting (length (flat (waits n xs es)))) _ c .1) (b .3))
+  where
+    by-mark : (k : Token) → possible n (t .keys) ≡ true → (k .end ≡ mark-of t) ⊎ Absents (t .keys) → k .end ≡ mark-of t
+    by-mark k p (inl f) = f
+    by-mark k p (inr a) = true-false (sym p ∙ absents-not n (t .keys) a)
