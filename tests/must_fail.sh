@@ -14,10 +14,11 @@ count=0
 # The checks with what they read. The library is there, and this script is not run again.
 fresh() {
     rm -rf "$copy"
-    mkdir -p "$copy"/crates/{replay,restream}
+    mkdir -p "$copy"/crates/{replay,restream,records/src,driver/src,stream/src}
     cp -r "$tree"/{bench,docs,examples,include,tests,tools} "$copy/"
     cp "$tree/crates/replay/stdout" "$copy/crates/replay/"
     cp "$tree/crates/restream/stdout" "$copy/crates/restream/"
+    for f in records/src/lib.rt driver/src/held.rt stream/src/lib.rt; do cp "$tree/crates/$f" "$copy/crates/$f"; done
     printf '#!/bin/sh\nmkdir -p "$1" && cp "%s" "$1/"\n' "$library" > "$copy/bench/native.sh"
     printf '#!/bin/sh\n' > "$copy/tests/must_fail.sh"
     cd "$copy"
@@ -134,6 +135,14 @@ fails "echo c3a9 words=52800 bytes=2 | $streamed > /dev/full"
 fails target/tests/stream 1 10 nowhere
 fails "target/tests/stream 1 10 $stream > /dev/full"
 
+passes python3 tools/constants.py
+fails python3 tools/constants.py 1
+damaged include/tokenglade.h 's/STATE 18/STATE 19/' python3 tools/constants.py
+damaged include/tokenglade.h 's/4400/4399/' tests/run.sh 10
+damaged examples/tokenglade.rs 's/= 1809/= 1810/' python3 tools/constants.py
+damaged crates/stream/src/lib.rt 's/4_400/4_401/' python3 tools/constants.py
+damaged crates/records/src/lib.rt '/^pub const RECORD_WORDS/d' python3 tools/constants.py
+
 passes python3 tools/vector_files.py $vectors
 fails python3 tools/vector_files.py nowhere
 damaged $vectors '3s/ => .*//' python3 tools/vector_files.py $vectors
@@ -239,7 +248,10 @@ printf '#!/bin/sh\n[ -e "$3" ] && echo 100 5 1 10\n' > measured/bench
 chmod +x measured/bench
 bench="BENCH_OUT=measured bench/run.py --rounds 1"
 passes $bench
+passes $bench --before measured
+said "tokenglade-stream, time over before"
 fails $bench --rounds 0
+fails $bench --before nowhere
 damaged measured/bench 's/echo.*/case $1 in tokenglade) echo 100 -1 1 10 ;; *) echo 100 5 1 10 ;; esac/' $bench
 damaged measured/bench 's/echo.*/case $1 in lib*) echo 100 -1 1 10 ;; *) echo 100 5 1 10 ;; esac/' $bench
 damaged measured/bench 's/echo.*/exit 2/' $bench

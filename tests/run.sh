@@ -1,7 +1,7 @@
 #!/bin/bash
-# run.sh [COUNT]: builds the drivers over the library; holds its answers against the vectors, and against docs/SUITE.md where the cases of the public
-# suite are given by SUITE=FILE; scans COUNT random and damaged texts (default 10,000,000), and takes the tokens of a fifth as many one at a time; sees
-# that the checks fail where they should.
+# run.sh [COUNT]: builds the drivers over the library; holds the numbers of the header and the wrapper against the code's, the library's answers
+# against the vectors, and against docs/SUITE.md where the cases of the public suite are given by SUITE=FILE; scans COUNT random and damaged texts
+# (default 10,000,000), and takes the tokens of a fifth as many one at a time; sees that the checks fail where they should.
 set -euo pipefail
 suite=${SUITE:+$(realpath -e "$SUITE")}
 cd "$(dirname "$0")/.."
@@ -11,6 +11,7 @@ bench/native.sh $out
 for driver in fuzz answers stream stream_answers; do
     gcc -O2 -Wall -Wextra -Iinclude tests/$driver.c -L$out -ltokenglade -o $out/$driver
 done
+python3 tools/constants.py
 python3 tools/vector_files.py tests/vectors/{all,crate,stream}.txt
 cmp tests/vectors/all.txt crates/replay/stdout
 cmp tests/vectors/stream.txt crates/restream/stdout
