@@ -23,4 +23,5 @@ pub mod SlotLaws
 pub mod Moves
 pub mod FetchMoves
 pub mod Steps
+pub mod Removes
 pub mod Removal

@@ -2,7 +2,7 @@
 -- in every state that a run reaches, a candidate that is removed is not required. In flow none is (Required). At level 0 a required key that did not lapse
 -- is of this line, so no simple key is allowed: '-' and '?' are 46 before; and the column is above 0, where no directive, byte order mark or document marker stands.
 use Prim.Native.Nat.{_<_, suc, zero, ℕ}
-use mathlib.Core.Bool.{Bool, _&&_, _||_, false, not, true}
+use mathlib.Core.Bool.{Bool, false, not, true}
 use mathlib.Core.List.{List, [], _∷_}
 use mathlib.Core.Logic.{_⊎_, inl, inr}
 use mathlib.Core.Path.{_∙_, _≡_, ap, refl, sym}
@@ -31,6 +31,7 @@ use Rattle.yaml_scan.specs.Fetches.{Fetched}
 use Rattle.yaml_scan.specs.Runs.{Reaches, here, then-step}
 use Rattle.yaml_scan.specs.Budget.{on-news}
 use Rattle.yaml_scan.specs.Steps.{unrolled-state}
+use Rattle.yaml_scan.specs.Removes.{removes}
 use Rattle.yaml_scan.specs.Required.{Ahead, Between, Keeps, fetch-keeps, flow-none, to-next-token-ahead}
 
 -- 01's rule
@@ -38,29 +39,6 @@ unfoldable pub remove-or-refuse : State → Read State
 remove-or-refuse s = do
   _ ← need (not (is-required (top-key (s .keys)))) 41 (mark-of s)
   got (remove-key s)
-
--- the token of this choice removes the candidate, unless another number comes before
-unfoldable pub removes : Choice → State → Bool
-removes AtDirective s = true
-removes AtByteOrderMark s = true
--- 47
-removes (AtMarker starts) s = not (in-flow s)
-removes (Closes sequence) s = closes-level sequence (s .levels)
-removes AtComma s = true
--- 46
-removes AtDash s = not (in-flow s) && s .simple-key-allowed
-removes AtQuestion s = in-flow s || s .simple-key-allowed
--- the others save one, use it up or leave it
-removes AtEnd s = false
-removes BelowIndent s = false
-removes Stray s = false
-removes (Opens sequence) s = false
-removes AtColon s = false
-removes AtTag s = false
-removes AtPlain s = false
-removes (AtAnchor alias) s = false
-removes (AtBlock literal) s = false
-removes (AtQuoted single) s = false
 
 -- it is not required
 
