@@ -21,7 +21,7 @@ use Rattle.chars.specs.Bytes.{CharAt}
 use Rattle.chars.specs.Lines.{break-reach}
 use Rattle.chars.specs.Places.{stands-along, stands-line}
 use Rattle.chars.specs.Reach.{Reach, reach-rest, reach-within}
-use Rattle.chars.specs.View.{past}
+use Rattle.chars.specs.View.{past, view}
 use Rattle.escapes.specs.declared.answer.Escape.{Escape}
 use Rattle.escapes.specs.declared.answer.Escape.the-variants as answer
 use Rattle.escapes.specs.Escaped.{Escapes, escape-from}
@@ -32,10 +32,10 @@ use Rattle.quoted.specs.declared.turns.Quote.{Quote}
 use Rattle.quoted.specs.declared.turns.Turned.{Turned}
 use Rattle.quoted.specs.declared.turns.Turned.the-variants.{Ends, Goes}
 use Rattle.quoted.specs.Modes.{mode-of}
-use Rattle.quoted.specs.Texts.{quote-by}
-use Rattle.quoted.specs.Advance.{Advances, Sound, number-of, quote-of, rest-of, text-of, text-turn}
-use Rattle.quoted.proofs.Putting.{put-escape, put-joined}
-use Rattle.quoted.proofs.Runs.{before-none, behind, pass-break}
+use Rattle.quoted.specs.Texts.{passing, quote-by}
+use Rattle.quoted.specs.Advance.{Advances, Sound, number-of, quote-of, rest-of, text-turn, turn-of}
+use Rattle.quoted.proofs.Putting.{take-escape, take-joined}
+use Rattle.quoted.proofs.Runs.{before-none, behind, pass-break, run-passing}
 use Rattle.quoted.proofs.Texts.{pass-along, pass-reach, run-escape, run-joined}
 use Rattle.quoted.proofs.Told.{escape-at-start, escape-passes}
 use Rattle.quoted.proofs.Turning.{goes-on, refused-at}
@@ -99,10 +99,10 @@ module _ (q : Quote) {text : List ℕ} {p : Place} {n : ℕ} (s : Sound text (te
       let w : Reach text (p .at + 1) k (p .at + 1 + k) = rw e (break-reach text (p .at + 1)) in
       let i = reach-within w (a .within) in
       let g = run-joined (quote-of q) m backslash rest (backslash-unblank .0) (backslash-unblank .1) (not-quote _ u) (is-backslash _ u) (breaks-yes b h) in
-      let j = pass-break (quote-of q) (joined 0 true) (along m) b h in
+      let j = pass-break (along m) b h in
       goes-on [] (record { place = past (past p 1 (along m)) k (new-line k (along m)); mode = mode.Escaped; count = n })
-      (rw (a .next) (put-joined (quote-of q) m backslash rest (backslash-unblank .0) (backslash-unblank .1) (not-quote _ u) (is-backslash _ u) (breaks-yes b h)))
-      (rw (a .next, reach-rest w) (rw (← e) at g ∙ j ∙ sym (before-none (quoted-run (quote-of q) (joined 0 true) 0 (new-line k (along m)) (drop k rest)))))
+      (rw (a .next, reach-rest w, ← j, e) (take-joined (quote-of q) m backslash rest (backslash-unblank .0) (backslash-unblank .1) (not-quote _ u) (is-backslash _ u) (breaks-yes b h)))
+      (rw (a .next, reach-rest w) (rw (← e) at g ∙ run-passing (quote-of q) (joined 0 true) k (along m) rest ∙ rw j (sym (before-none (quoted-run (quote-of q) (joined 0 true) 0 (new-line k (along m)) (drop k rest))))))
       refl (omega arith)
       (record {
         stands = stands-line (stands-along (s .stands) 1 1 (omega arith) (a .within)) k h (i .0);
@@ -124,23 +124,24 @@ module _ (q : Quote) {text : List ℕ} {p : Place} {n : ℕ} (s : Sound text (te
 
     -- an escape of the character c
     module _ {c : ℕ} {next : Place} (x : Taken p (escape (q .start) (after text p)) c next) where
-      one-is : rest-of text q (text-turn p n) ≡ before-read (c ∷ []) (quoted-run (quote-of q) chars-of 0 (next .mark) (chars (drop (next .at) text)))
-      one-is =
+      one-place : passing (x .esc .took) (along (p .mark)) (after text p) ≡ view text next
+      one-place =
           let m = p .mark in
           let j = x .esc .took in
           let y = escape-passes (q .start) (after text p) (x .esc) (x .is) in
           let z : p .at + 1 + j ≡ p .at + (j + 1) = omega arith in
           let k : m .index + 1 + j ≡ m .index + (j + 1) = omega arith in
           let l : m .col + 1 + j ≡ m .col + (j + 1) = omega arith in
-          escape-is (x .is)
-          ∙ rw (← (x .char), x .mark-is, x .at-is, ← z, reach-rest (pass-reach text (p .at + 1) j (y .1)), ← k, ← l)
-          (ap (before-read (c ∷ [])) (pass-along (quote-of q) chars-of j (along m) (after text p) (y .1)))
+          pass-along j (along m) (after text p) (y .1) ∙ rw (x .mark-is, x .at-is, ← z, reach-rest (pass-reach text (p .at + 1) j (y .1)), k, l)
 
-      one-put : c ∷ [] ≡ text-of text q (text-turn p n)
+      one-is : rest-of text q (text-turn p n) ≡ before-read (c ∷ []) (quoted-run (quote-of q) chars-of 0 (next .mark) (chars (drop (next .at) text)))
+      one-is = escape-is (x .is) ∙ rw (← (x .char), run-passing (quote-of q) chars-of (x .esc .took) (along (p .mark)) (after text p), one-place)
+
+      one-takes : record { text = c ∷ []; mode = chars-of; place = view text next } ≡ turn-of text q (text-turn p n)
       unfolding mode-of
-      one-put =
-          rw (a .next, x .char)
-          (put-escape (quote-of q) (p .mark) backslash (after text p) (backslash-unblank .0) (backslash-unblank .1) (not-quote _ u) (is-backslash _ u)
+      one-takes =
+          rw (a .next, x .char, ← one-place)
+          (take-escape (quote-of q) (p .mark) backslash (after text p) (backslash-unblank .0) (backslash-unblank .1) (not-quote _ u) (is-backslash _ u)
           (breaks-no (breaks (after text p)) v) (x .is))
 
       one-on : p .at + 2 ≤ next .at
@@ -153,7 +154,7 @@ module _ (q : Quote) {text : List ℕ} {p : Place} {n : ℕ} (s : Sound text (te
         let x = taken p (escape (q .start) (after text p)) c next (w .same) in
         let o = width-some c .1 in
         let i = one-on x in
-        goes-on (c ∷ []) (text-turn next k) (one-put x) (one-is x) (f ∙ rw (append-nil (char-bytes c))) (g ∙ rw (append-nil (char-bytes c)))
+        goes-on (c ∷ []) (text-turn next k) (one-takes x) (one-is x) (f ∙ rw (append-nil (char-bytes c))) (g ∙ rw (append-nil (char-bytes c)))
         (record { stands = w .ahead .1; short = s .short; kept = tt; few = omega (arith, s .few) })
         (omega arith) h
 

@@ -28,7 +28,7 @@ use Rattle.quoted.specs.Texts.{quote-by, special, text-char}
 use Rattle.quoted.specs.Advance.{Advances, Sound, TextAt, blank-turned, break-turned, quote-of, swept, text-turn}
 use Rattle.quoted.proofs.Kept.{text-right, text-wrong}
 use Rattle.quoted.proofs.Lines.{quote-at}
-use Rattle.quoted.proofs.Putting.{put-behind}
+use Rattle.quoted.proofs.Putting.{take-behind}
 use Rattle.quoted.proofs.Runs.{run-folded, run-text}
 use Rattle.quoted.proofs.Turning.{blank-turns, break-turns, refused-at, turns-from}
 
@@ -71,7 +71,7 @@ module _ {text : List ℕ} {q : Quote} {t : Progress} {r : Turned} where
   break-chosen before {c} {n} s a b f =
       let at = t .place .at in
       let e : is-break (getD text at 0) ≡ true = sym (ascii-at text at (getD text at 0) refl break-ascii) ∙ rw (a .next) b in
-      break-turns before s (break-at (s .stands) refl e refl) f
+      break-turns before s (break-at (s .stands) refl e refl) refl f
 
   module _ (w : TextAt text (t .place .at)) {k : ℕ} (e : k ≡ line-number (quote-of q) (t .mode) (t .place .mark) (chars (drop (t .place .at) text))) where
     -- 33, 35
@@ -97,7 +97,7 @@ module _ {text : List ℕ} {q : Quote} {t : Progress} {r : Turned} where
         let cs = chars (drop (at + w .len) text) in
         let b = mode-of text at (t .mode) in
         let x = text-right (quote-of q) m (w .char) cs text at (t .mode) (sym (rw (w .is .next) at e) ∙ z) in
-        turns-from (folds-to b) (rw (w .is .next) (put-behind (quote-of q) b m (w .char) cs (w .no-blank) (w .no-break)))
+        turns-from (folds-to b) (rw (w .is .next) (take-behind (quote-of q) b m (w .char) cs (w .no-blank) (w .no-break)))
         (rw (w .is .next) (run-folded (quote-of q) b m (w .char) cs (folds-to b) (w .no-blank) (w .no-break) x)) (f .puts) refl g
 
 -- no count of breaks wraps

@@ -10,11 +10,11 @@ use lib.Seq.{length-take-le, sets}
 use borrow.Author.Tests.{eq-eqb, eqb-true, leb-true}
 use Rattle.yaml_text.specs.Char.{single-quote}
 use Rattle.yaml_text.specs.Class.{is-blank, is-break, peek}
-use Rattle.yaml_text.specs.Mark.{along, along-by, edge-of}
+use Rattle.yaml_text.specs.Mark.{along, along-by, edge-of, here}
 use Rattle.yaml_text.specs.Test.{both-true}
 use Rattle.yaml_text.specs.Utf8.{char-bytes, chars, encode}
 use Rattle.yaml_text.specs.Utf8Laws.{first-bytes}
-use Rattle.yaml_lexeme.specs.Quoted.{chars-of, quoted-run}
+use Rattle.yaml_lexeme.specs.Quoted.{chars-of}
 use Rattle.chars.specs.declared.mark.Place.{Place}
 use Rattle.chars.specs.Bytes.{CharAt, eq-at, eq-char}
 use Rattle.chars.specs.Parts.{Spans, part}
@@ -25,9 +25,10 @@ use Rattle.quoted.specs.declared.turns.Quote.{Quote}
 use Rattle.quoted.specs.declared.turns.Turned.{Turned}
 use Rattle.quoted.specs.declared.turns.Turned.the-variants.{Ends, Goes}
 use Rattle.quoted.specs.Modes.{mode-of}
-use Rattle.quoted.specs.Texts.{quote-by, text-char, words}
+use Rattle.quoted.specs.Texts.{Stretch, passing, quote-by, text-char, words}
 use Rattle.quoted.specs.Advance.{Advances, Sound, TextAt, quote-of, text-turn}
-use Rattle.quoted.proofs.Putting.{put-closed, put-pair, put-words}
+use Rattle.quoted.proofs.Putting.{take-closed, take-pair, take-words}
+use Rattle.quoted.proofs.Runs.{run-passing}
 use Rattle.quoted.proofs.Texts.{Passed, pass-along, run-closed, run-pair, run-words, words-more}
 use Rattle.quoted.proofs.Turning.{closed-at, goes-on}
 
@@ -57,13 +58,12 @@ module _ {text : List ℕ} {q : Quote} {p : Place} {n : ℕ} {r : Turned} (s : S
         let i : m .index + 1 + 1 ≡ m .index + 2 = omega arith in
         let j : m .col + 1 + 1 ≡ m .col + 2 = omega arith in
         let x : at + 1 + 1 ≡ at + 2 = omega arith in
-        let v : quoted-run (quote-of q) chars-of 1 (along m) cs ≡ quoted-run (quote-of q) chars-of 0 (along-by 2 m) (chars (drop (at + 2) text)) =
-        pass-along (quote-of q) chars-of 1 (along m) cs l ∙ rw (i, j, d .next, x) in
+        let v : passing 1 (along m) cs ≡ here (along-by 2 m) (chars (drop (at + 2) text)) = pass-along 1 (along m) cs l ∙ rw (i, j, d .next, x) in
         let o = eq-eqb (quote-by (q .single)) (quote-by (q .single)) refl in
         goes-on (single-quote ∷ []) (text-turn (past p 2 (along-by 2 m)) (n + 1))
-        (rw (a .next) (put-pair (quote-of q) m (quote-by (q .single)) cs (u .0) (u .1) o g))
+        (rw (a .next, ← v) (take-pair (quote-of q) m (quote-by (q .single)) cs (u .0) (u .1) o g))
         (rw (a .next)
-        (run-pair (quote-of q) m (quote-by (q .single)) cs (u .0) (u .1) o g ∙ rw v))
+        (run-pair (quote-of q) m (quote-by (q .single)) cs (u .0) (u .1) o g ∙ rw (run-passing (quote-of q) chars-of 1 (along m) cs, v)))
         f refl
         (record { stands = stands-along (s .stands) 2 2 (omega arith) (omega (arith, d .within)); short = s .short; kept = tt; few = omega (arith, s .few) })
         (omega arith) k
@@ -77,7 +77,7 @@ module _ {text : List ℕ} {q : Quote} {p : Place} {n : ℕ} {r : Turned} (s : S
         let g : (q .single && eqb (peek cs 0) single-quote) ≡ false = rw (eq-at text (p .at + 1) b e 39 tt) h in
         let o = eq-eqb (quote-by (q .single)) (quote-by (q .single)) refl in
         closed-at before
-        (rw (a .next) (put-closed (quote-of q) (p .mark) (quote-by (q .single)) cs (u .0) (u .1) o g))
+        (rw (a .next) (ap (λ (d : Stretch). d .text) (take-closed (quote-of q) (p .mark) (quote-by (q .single)) cs (u .0) (u .1) o g)))
         (rw (a .next) (run-closed (quote-of q) (p .mark) (quote-by (q .single)) cs (u .0) (u .1) o g))
         (stands-along (s .stands) 1 1 (omega arith) (a .within)) (omega arith) (omega (arith, s .few)) k
 
@@ -101,7 +101,7 @@ module _ {text : List ℕ} {q : Quote} {p : Place} {n : ℕ} {r : Turned} (s : S
       rw (a .next, words-more spaces (q .single) m c (chars (drop (p .at + len) text)) (rw t)) (length-append (char-bytes c) (encode (z .text))) in
       let j = first-bytes (drop (p .at) text) c len (a .is) .1 in
       goes-on (y .text) (text-turn e (n + (e .at - p .at)))
-      (rw (a .next) (put-words (quote-of q) m c (chars (drop (p .at + len) text)) (i .no-blank) (i .no-break) t))
+      (rw (w .moves .same, a .next) (take-words (quote-of q) m c (chars (drop (p .at + len) text)) (i .no-blank) (i .no-break) t))
       (run-words (quote-of q) spaces m (chars (drop (p .at) text)) (leb-true (q .indent) (edge-of m)) ∙ rw (← (w .moves .same))) (f ∙ rw (w .bytes)) (rw l)
       (record { stands = w .moves .stands; short = s .short; kept = tt; few = omega (arith, s .few) })
       (omega (arith, a .some)) k

@@ -18,7 +18,7 @@ use Rattle.quoted.specs.declared.turns.Progress.{Progress}
 use Rattle.quoted.specs.declared.turns.Turned.{Turned}
 use Rattle.quoted.specs.declared.turns.Turned.the-variants.{Ends, Goes}
 use Rattle.quoted.specs.Modes.{mode-of}
-use Rattle.quoted.specs.Advance.{Advances, ClosedBehind, EndLeaves, Leaves, RunEnds, Sound, led-to, quote-of, text-of, text-turn, to-write, written}
+use Rattle.quoted.specs.Advance.{Advances, ClosedBehind, EndLeaves, Leaves, RunEnds, Sound, led-to, quote-of, text-turn, to-write, turn-of, written}
 
 pub record Running (text : List ℕ) (q : Quote) (before out : List ℕ) (t : Progress) : Type 0 where
   pub sound : Sound text t
@@ -55,4 +55,4 @@ module _ {text : List ℕ} {q : Quote} {before out next : List ℕ} {t : Progres
 
   pub running-done : {e : End} → r ≡ Ends e → RunEnds text q before next e
   unfolding led-to
-  running-done {e} f = let k = rw f at h in record { same = w .whole ∙ k .same; leaves = end-leaves before out next (t .count) (text-of text q t) e (w .same) (k .leaves); behind = behind-from text (t .place .at) e (k .onward) }
+  running-done {e} f = let k = rw f at h in record { same = w .whole ∙ k .same; leaves = end-leaves before out next (t .count) (turn-of text q t .text) e (w .same) (k .leaves); behind = behind-from text (t .place .at) e (k .onward) }

@@ -1,5 +1,5 @@
 -- Turns of the definition: over a blank, a break and a character of the text.
-use Prim.Native.Nat.{_+_, _≤_, ℕ}
+use Prim.Native.Nat.{_+_, _≤_, suc, zero, ℕ}
 use mathlib.Core.Bool.{_&&_, false, not, true}
 use mathlib.Core.List.{List, [], _++_, _∷_, append-assoc, append-nil}
 use mathlib.Core.Path.{_∙_, _≡_, ap, refl, sym}
@@ -19,8 +19,9 @@ use Rattle.yaml_lexeme.specs.Quoted.{Mode, Quote, QuotedTurn, after-turn, broke
 use Rattle.yaml_lexeme.specs.Turns.{quoted-turned}
 use Rattle.chars.specs.Ascii.{apart, blank-unbroken, break-ascii}
 use Rattle.gaps.specs.Breaks.{Breaks, none, one, two}
+use Rattle.quoted.specs.Texts.{passing}
 
-break-unblank : (c : ℕ) → is-break c ≡ true → is-blank c ≡ false
+pub break-unblank : (c : ℕ) → is-break c ≡ true → is-blank c ≡ false
 unfolding is-blank is-break
 break-unblank = apart is-blank break-ascii tt
 
@@ -77,13 +78,19 @@ run-break q b m (two {cs}) h =
 run-break q b m (one {c} {cs} e f) h = break-one q b m c cs e f
 run-break q b m (none e) h = absurd (omega arith)
 
--- passing over the break behind a backslash
-pub pass-break : (q : Quote) (b : Mode) (m : Mark) {cs : List ℕ} {n : ℕ} → Breaks cs n → 1 ≤ n
-    → quoted-run q b n m cs ≡ quoted-run q b 0 (new-line n m) (drop n cs)
-unfolding quoted-run over half-break is-break
-pass-break q b m (two {cs}) h = let e : m .index + 1 + 1 ≡ m .index + 2 = omega arith in rw e
-pass-break q b m (one {c} {cs} e f) h = ap (λ (k : Mark). quoted-run q b 0 k cs) (over-break m c (peek cs 0) f e)
-pass-break q b m (none e) h = absurd (omega arith)
+-- passing over characters
+pub run-passing : (q : Quote) (b : Mode) (k : ℕ) (m : Mark) (cs : List ℕ) → let p = passing k m cs in quoted-run q b k m cs ≡ quoted-run q b 0 (p .mark) (p .rest)
+unfolding quoted-run passing
+run-passing q b zero m cs = refl
+run-passing q b (suc k) m [] = refl
+run-passing q b (suc k) m (c ∷ cs) = run-passing q b k (over m c (peek cs 0)) cs
+
+-- over the break behind a backslash
+pub pass-break : (m : Mark) {cs : List ℕ} {n : ℕ} → Breaks cs n → 1 ≤ n → passing n m cs ≡ here (new-line n m) (drop n cs)
+unfolding passing over half-break is-break
+pass-break m (two {cs}) h = let e : m .index + 1 + 1 ≡ m .index + 2 = omega arith in rw e
+pass-break m (one {c} {cs} e f) h = ap (λ (k : Mark). here k cs) (over-break m c (peek cs 0) f e)
+pass-break m (none e) h = absurd (omega arith)
 
 -- a text before what a turn puts
 prefix : List ℕ → QuotedTurn → QuotedTurn

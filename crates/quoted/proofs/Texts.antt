@@ -21,7 +21,7 @@ use Rattle.yaml_lexeme.specs.Quoted.{Mode, Quote, blanks-of, chars-of, escape-t
 use Rattle.chars.specs.Bytes.{peek-char}
 use Rattle.chars.specs.Reach.{Reach, more, none}
 use Rattle.chars.specs.Ascii.{Ascii, _or_, apart, range}
-use Rattle.quoted.specs.Texts.{inner, ordinary, quote-by, special, text-char, words}
+use Rattle.quoted.specs.Texts.{inner, ordinary, passing, quote-by, special, text-char, words}
 use Rattle.quoted.proofs.Runs.{before-both, before-none, behind, run-blank, run-folded, run-text}
 
 -- a character of one byte that is no break
@@ -33,18 +33,17 @@ abbrev pub Passed : ℕ → List ℕ → Type 0
 Passed zero cs = Unit {0}
 Passed (suc k) cs = Low (peek cs 0) × Passed k (drop 1 cs)
 
-pub pass-along : (q : Quote) (b : Mode) (k : ℕ) (m : Mark) (cs : List ℕ) → Passed k cs
-    → quoted-run q b k m cs ≡ quoted-run q b 0 (along-by k m) (drop k cs)
-unfolding quoted-run
-pass-along q b zero m cs h =
+pub pass-along : (k : ℕ) (m : Mark) (cs : List ℕ) → Passed k cs → passing k m cs ≡ here (along-by k m) (drop k cs)
+unfolding passing
+pass-along zero m cs h =
     let i : m .index + 0 ≡ m .index = omega arith in
     let j : m .col + 0 ≡ m .col = omega arith in
     rw (i, j)
-pass-along q b (suc k) m [] h = absurd (omega (arith, h .0 .0))
-pass-along q b (suc k) m (c ∷ cs) h =
+pass-along (suc k) m [] h = absurd (omega (arith, h .0 .0))
+pass-along (suc k) m (c ∷ cs) h =
     let i : m .index + 1 + k ≡ m .index + suc k = omega arith in
     let j : m .col + 1 + k ≡ m .col + suc k = omega arith in
-    ap (λ (n : Mark). quoted-run q b k n cs) (over-along m c (peek cs 0) (h .0 .2)) ∙ pass-along q b k (along m) cs (h .1) ∙ rw (i, j)
+    ap (λ (n : Mark). passing k n cs) (over-along m c (peek cs 0) (h .0 .2)) ∙ pass-along k (along m) cs (h .1) ∙ rw (i, j)
 
 pub pass-reach : (s : List ℕ) (at k : ℕ) → Passed k (chars (drop at s)) → Reach s at k (at + k)
 pass-reach s at zero h = let e : at + 0 ≡ at = omega arith in rw e none

@@ -28,7 +28,7 @@ use Rattle.quoted.specs.declared.turns.Turned.{Turned}
 use Rattle.quoted.specs.declared.turns.Turned.the-variants.{Ends, Goes}
 use Rattle.reading.specs.Puts.{Puts}
 use Rattle.quoted.specs.Modes.{Kept, behind-break, blank-mode, break-mode, mode-of, owed}
-use Rattle.quoted.specs.Texts.{turn-text}
+use Rattle.quoted.specs.Texts.{Stretch, turn-stretch}
 
 abbrev pub quote-of : Quote → quotes.Quote
 quote-of q = record { single = q .single; indent = q .indent; start = q .start }
@@ -81,11 +81,16 @@ abbrev pub Further : List ℕ → ℕ → Turned → Type 0
 Further text at (Goes t) = Sound text t × (at < t .place .at)
 Further text at (Ends e) = ClosedBehind text at e
 
--- the text of a turn
-abbrev pub text-of : List ℕ → Quote → Progress → List ℕ
-text-of text q t = turn-text (quote-of q) (mode-of text (t .place .at) (t .mode)) (t .place .mark) (chars (drop (t .place .at) text))
+-- what a turn takes
+abbrev pub turn-of : List ℕ → Quote → Progress → Stretch
+turn-of text q t = turn-stretch (quote-of q) (mode-of text (t .place .at) (t .mode)) (t .place .mark) (chars (drop (t .place .at) text))
 
--- it is written from n on; a refusal leaves the lent bytes all zero
+-- where it goes on, refused or not behind it
+abbrev pub Leads : List ℕ → Stretch → Turned → Type 0
+Leads text d (Goes u) = (mode-of text (u .place .at) (u .mode) ≡ d .mode) × (view text (u .place) ≡ d .place)
+Leads text d (Ends e) = Unit {0}
+
+-- its text is written from n on; a refusal leaves the lent bytes all zero
 abbrev pub Leaves : List ℕ → ℕ → List ℕ → List ℕ → Turned → Type 0
 Leaves before n after t (Goes u) = Puts before n after (u .count) t
 Leaves before n after t (Ends (Closed p k)) = Puts before n after k t
@@ -94,7 +99,8 @@ Leaves before n after t (Ends (Refused f)) = after ≡ replicate (length before)
 -- the contract of a turn
 pub record Advances (text : List ℕ) (q : Quote) (before after : List ℕ) (t : Progress) (r : Turned) : Type 0 where
   pub same : to-write text q before t ≡ led-to text q after r
-  pub leaves : Leaves before (t .count) after (text-of text q t) r
+  pub leaves : Leaves before (t .count) after (turn-of text q t .text) r
+  pub leads : Leads text (turn-of text q t) r
   pub onward : Further text (t .place .at) r
 
 -- an escape's refusal; 0: none
