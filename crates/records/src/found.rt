@@ -152,7 +152,7 @@ fn token_in(w: [u32; RECORD_WORDS]) -> Recorded
     Recorded::NoToken
 }
 
-// The token of the record that begins at `at`.
+// The token of the record that begins at `at`: for whoever reads records back.
 pub fn token_of(words: &[u32], at: usize) -> Recorded
     ensures { λ r. ⌜ r ≡ token-of (take record-words (drop at (now (words .entry)))) ⌝ }
 {
