@@ -19,51 +19,52 @@ use Rattle.yaml_scan.specs.Budget.{on-news}
 use Rattle.yaml_scan.specs.Runs.{step-news}
 use Rattle.events.specs.declared.Counts.{Counts}
 use Rattle.sink.specs.Stored.{CountsBehind}
-use Rattle.stream_laws.specs.Driven.{Driven, Halt, after-halt, after-news, behind-events, counts-after, driven, ends, go-on, noted, pause, pauses, refuse, spent, stops}
+use Rattle.stream_laws.specs.declared.Pending.{Pending}
+use Rattle.stream_laws.specs.Driven.{Driven, Halt, Test, after-halt, after-news, behind-events, counts-after, driven, ends, go-on, noted, pause, pauses, refuse, spent, stops}
 
 pub behind-none : (d : Driven) → d ≡ behind-events [] d
 behind-none (ends es) = refl
-behind-none (pauses es level t) = refl
-behind-none (stops k m) = refl
+behind-none (pauses es w t) = refl
+behind-none (stops es w k m) = refl
 behind-none spent = refl
 
 pub behind-twice : (es fs : List Event) (d : Driven) → behind-events es (behind-events fs d) ≡ behind-events (es ++ fs) d
 behind-twice es fs (ends gs) = ap ends (sym (append-assoc es fs gs))
-behind-twice es fs (pauses gs level t) = ap (λ (x : List Event). pauses x level t) (sym (append-assoc es fs gs))
-behind-twice es fs (stops k m) = refl
+behind-twice es fs (pauses gs w t) = ap (λ (x : List Event). pauses x w t) (sym (append-assoc es fs gs))
+behind-twice es fs (stops gs w k m) = ap (λ (x : List Event). stops x w k m) (sym (append-assoc es fs gs))
 behind-twice es fs spent = refl
 
 -- events before what is said behind a step; what comes then is the same
-pub behind-halt : (x : Halt) (es fs : List Event) (level : ℕ) (t : State) (m : Counts) (go on : State → Counts → Driven) → go t m ≡ on t m
-    → behind-events es (after-halt x fs level t m go) ≡ after-halt x (es ++ fs) level t m on
-behind-halt go-on es fs level t m go on e = rw e (behind-twice es fs (on t m))
-behind-halt pause es fs level t m go on e = refl
-behind-halt (refuse k p) es fs level t m go on e = refl
+pub behind-halt : (x : Halt) (es fs : List Event) (w : Pending) (t : State) (m : Counts) (go on : Pending → State → Counts → Driven) → ((v : Pending) → go v t m ≡ on v t m)
+    → behind-events es (after-halt x fs w t m go) ≡ after-halt x (es ++ fs) w t m on
+behind-halt (go-on v) es fs w t m go on e = rw (e v) (behind-twice es fs (on v t m))
+behind-halt (pause v) es fs w t m go on e = refl
+behind-halt (refuse k p) es fs w t m go on e = refl
 
-halt-same : (x : Halt) (es : List Event) (level : ℕ) (t : State) (m : Counts) (go on : State → Counts → Driven) → go t m ≡ on t m
-    → after-halt x es level t m go ≡ after-halt x es level t m on
-halt-same go-on es level t m go on e = rw e
-halt-same pause es level t m go on e = refl
-halt-same (refuse k p) es level t m go on e = refl
+halt-same : (x : Halt) (es : List Event) (w : Pending) (t : State) (m : Counts) (go on : Pending → State → Counts → Driven) → ((v : Pending) → go v t m ≡ on v t m)
+    → after-halt x es w t m go ≡ after-halt x es w t m on
+halt-same (go-on v) es w t m go on e = rw (e v)
+halt-same (pause v) es w t m go on e = refl
+halt-same (refuse k p) es w t m go on e = refl
 
-module _ (limits : Limits) (test : State → Counts → Halt) where
+module _ (limits : Limits) (test : Test) where
   -- one more changes nothing
-  driven-stable : (k : ℕ) (s : State) (n : Counts) → left (s .place) < k → driven limits test (suc k) s n ≡ driven limits test k s n
+  driven-stable : (k : ℕ) (w : Pending) (s : State) (n : Counts) → left (s .place) < k → driven limits test (suc k) w s n ≡ driven limits test k w s n
   unfolding driven
-  driven-stable zero s n h = absurd (not-suc-le-zero h)
-  driven-stable (suc k) s n h =
+  driven-stable zero w s n h = absurd (not-suc-le-zero h)
+  driven-stable (suc k) w s n h =
       on-news
-      (λ r. after-news test (length (s .levels)) n (λ t m. driven limits test (suc k) t m) r ≡ after-news test (length (s .levels)) n (λ t m. driven limits test k t m) r)
+      (λ r. after-news test w (length (s .levels)) n (λ v t m. driven limits test (suc k) v t m) r ≡ after-news test w (length (s .levels)) n (λ v t m. driven limits test k v t m) r)
       (step-news [] limits s)
-      (λ es t i. halt-same (test t (counts-after n es)) es (length (s .levels)) t (counts-after n es) (λ u j. driven limits test (suc k) u j) (λ u j. driven limits test k u j) (driven-stable k t (counts-after n es) (omega (arith, i .takes))))
+      (λ es t i. halt-same (test w (length (s .levels)) t (counts-after n es)) es w t (counts-after n es) (λ v u j. driven limits test (suc k) v u j) (λ v u j. driven limits test k v u j) (λ v. driven-stable k v t (counts-after n es) (omega (arith, i .takes))))
       (λ _ _. refl) (λ _ _. refl)
 
-  pub driven-enough : (k : ℕ) (s : State) (n : Counts) → left (s .place) < k → driven limits test k s n ≡ driven limits test (suc (left (s .place))) s n
-  driven-enough zero s n h = absurd (not-suc-le-zero h)
-  driven-enough (suc k) s n h =
+  pub driven-enough : (k : ℕ) (w : Pending) (s : State) (n : Counts) → left (s .place) < k → driven limits test k w s n ≡ driven limits test (suc (left (s .place))) w s n
+  driven-enough zero w s n h = absurd (not-suc-le-zero h)
+  driven-enough (suc k) w s n h =
       by-test (ltb (left (s .place)) k)
-      (λ e. let i = ltb-true (left (s .place)) k e in driven-stable k s n i ∙ driven-enough k s n i)
-      (λ e. let i = ltb-false (left (s .place)) k e in let j : k ≡ left (s .place) = omega arith in ap (λ (j : ℕ). driven limits test (suc j) s n) j)
+      (λ e. let i = ltb-true (left (s .place)) k e in driven-stable k w s n i ∙ driven-enough k w s n i)
+      (λ e. let i = ltb-false (left (s .place)) k e in let j : k ≡ left (s .place) = omega arith in ap (λ (j : ℕ). driven limits test (suc j) w s n) j)
 
 -- counts
 
@@ -81,23 +82,26 @@ counts-are {n} {m} {es} c =
 
 -- where nothing is asked behind a step, they come to what the definition's run comes to
 
-abbrev pub as-driven : Outcome → Driven
-as-driven (scanned es) = ends es
-as-driven (stopped k m) = stops k m
-as-driven scans.spent = spent
+-- that is this outcome
+abbrev pub AsRun : Driven → Outcome → Type 0
+AsRun (ends es) o = o ≡ scanned es
+AsRun (pauses es w t) o = ⊥
+AsRun (stops es w k m) o = o ≡ stopped k m
+AsRun spent o = o ≡ scans.spent
 
-behind-run : (es : List Event) (o : Outcome) → behind-events es (as-driven o) ≡ as-driven (after-events es o)
-behind-run es (scanned fs) = refl
-behind-run es (stopped k m) = refl
-behind-run es scans.spent = refl
+behind-run : (es : List Event) (d : Driven) (o : Outcome) → AsRun d o → AsRun (behind-events es d) (after-events es o)
+behind-run es (ends fs) o e = rw e
+behind-run es (pauses fs w t) o e = e
+behind-run es (stops fs w k m) o e = rw e
+behind-run es spent o e = rw e
 
-pub driven-run : (limits : Limits) (k : ℕ) (s : State) (n : Counts) → driven limits (λ t m. go-on) k s n ≡ as-driven (run limits k s)
+pub driven-run : (limits : Limits) (k : ℕ) (w : Pending) (s : State) (n : Counts) → AsRun (driven limits (λ v level t m. go-on v) k w s n) (run limits k s)
 unfolding driven run
-driven-run limits zero s n = refl
-driven-run limits (suc k) s n = by-news (step limits s) (λ t m. driven-run limits k t m)
+driven-run limits zero w s n = refl
+driven-run limits (suc k) w s n = by-news (step limits s) (λ t m. driven-run limits k w t m)
   where
-    by-news : (r : Read News) → ((t : State) (m : Counts) → driven limits (λ u j. go-on) k t m ≡ as-driven (run limits k t))
-        → after-news (λ t m. go-on) (length (s .levels)) n (λ t m. driven limits (λ u j. go-on) k t m) r ≡ as-driven (after-step r (λ t. run limits k t))
-    by-news (got (goes-on es t)) f = rw (f t (counts-after n es)) (behind-run es (run limits k t))
+    by-news : (r : Read News) → ((t : State) (m : Counts) → AsRun (driven limits (λ v level u j. go-on v) k w t m) (run limits k t))
+        → AsRun (after-news (λ v level t m. go-on v) w (length (s .levels)) n (λ v t m. driven limits (λ v level u j. go-on v) k v t m) r) (after-step r (λ t. run limits k t))
+    by-news (got (goes-on es t)) f = behind-run es (driven limits (λ v level u j. go-on v) k w t (counts-after n es)) (run limits k t) (f t (counts-after n es))
     by-news (got (ends-with es)) f = refl
     by-news (refused j m) f = refl

@@ -4,8 +4,8 @@ use mathlib.Core.List.{List, [], _++_, append-nil, map}
 use mathlib.Core.Path.{_∙_, _≡_, ap, refl}
 use native.Mathlib.Omega.{arith}
 use lib.Dec.{ltb}
-use lib.ListN.{length, length-append, length-replicate, length-take, replicate, take}
-use lib.Seq.{length-take-le, take-all, take-append-le, take-take}
+use lib.ListN.{length, replicate, take}
+use lib.Seq.{length-take-le, take-all, take-at}
 use borrow.Author.Tests.{ltb-false, ltb-true}
 use Rattle.yaml_text.specs.declared.Mark.{Mark}
 use Rattle.yaml_text.specs.declared.Refusal.{Refusal}
@@ -30,16 +30,17 @@ use Rattle.states.specs.declared.State.{State}
 use Rattle.states.specs.Refused.{has-text}
 use Rattle.states.specs.State.{state-of}
 use Rattle.sink.specs.EventsStored.{store-events, store-laid}
-use Rattle.sink.specs.Stored.{Stored, stored-none, stored-then}
+use Rattle.sink.specs.Stored.{Stored, stored-then}
 use Rattle.storing.specs.Step.{StepGiven, StepRefused, events-of, way-left}
 use Rattle.driver.specs.declared.Stepped.the-variants.{On, Refused}
-use Rattle.stream_laws.specs.Driven.{Driven, Halt, after-halt, behind-events, counts-after, driven}
+use Rattle.stream_laws.specs.declared.Pending.{Pending}
+use Rattle.stream_laws.specs.Driven.{Driven, Test, after-halt, behind-events, counts-after, driven}
 use Rattle.driver.specs.Step.{StepDone}
-use Rattle.driver.proofs.Driven.{behind-halt, behind-none, counts-are, driven-enough}
+use Rattle.driver.proofs.Driven.{behind-halt, counts-are, driven-enough}
 
 -- a step that is refused stores nothing
 
-nothing-stored : (base : ℕ) (l : List ℕ) (slot used : ℕ) {d : Read News} {k : ℕ} {m : Mark} → d ≡ refused k m → l ≡ store-events l slot used (map (counted-from base) (events-of d))
+pub nothing-stored : (base : ℕ) (l : List ℕ) (slot used : ℕ) {d : Read News} {k : ℕ} {m : Mark} → d ≡ refused k m → l ≡ store-events l slot used (map (counted-from base) (events-of d))
 unfolding events-of store-laid laid-events
 nothing-stored base l slot used i = rw i
 
@@ -47,78 +48,64 @@ pub refused-done : {limits : Limits} {text e : List ℕ} {d : Read News} {base :
     → StepDone limits text e d base n l b z l b' (Refused f)
 refused-done {base = base} {n = n} l h = record { answers = h; words = nothing-stored base l (n .count - base) (n .used) (h .same) }
 
--- of the lent bytes their number stays then, and so do those used before
+-- and of the lent bytes those used before stay then
 
-cleared-length : (l : List ℕ) (n : ℕ) → length (cleared l n) ≡ length l
-cleared-length l n = omega (arith, length-append (take n l) (replicate (length l - n) 0), length-take n l, length-replicate {A = ℕ} (length l - n) 0)
-
-cleared-front : (l : List ℕ) (n k : ℕ) → k ≤ n → take k (cleared l n) ≡ take k l
-cleared-front l n k h =
+cleared-front : (l : List ℕ) (n : ℕ) → take n (cleared l n) ≡ take n l
+cleared-front l n =
     by-test (ltb (length l) n)
     (λ q.
     let i = ltb-true (length l) n q in
     let e : length l - n ≡ 0 = omega arith in
     let f = take-all n l (omega arith) in
-    rw (e, f) (take-append-nil l k))
-    (λ q.
-    let i = ltb-false (length l) n q in
-    take-append-le k (take n l) (replicate (length l - n) 0) (omega (arith, length-take-le n l i)) ∙ take-take k n l h)
+    rw (e, f) (take-append-nil l n ∙ f))
+    (λ q. take-at (take n l) (replicate (length l - n) 0) n (length-take-le n l (ltb-false (length l) n q)))
   where
     take-append-nil : (l : List ℕ) (k : ℕ) → take k (l ++ []) ≡ take k l
     take-append-nil l k = rw (append-nil l)
 
-left-length : (d : Read definition.State) (b : List ℕ) (used : ℕ) → length (way-left d b used) ≡ length b
+pub left-front : (d : Read definition.State) (b : List ℕ) (used : ℕ) → take used (way-left d b used) ≡ take used b
 unfolding way-left
-left-length (refused k m) b used = refl
-left-length (got x) b used =
-    by-pick (λ (z : List ℕ). length z ≡ length b) (has-text (choice (counting (unrolled x .ended) (with-indents (unrolled x .indents) x)))) (cleared b used) b (cleared-length b used) refl
+left-front (refused n m) b used = refl
+left-front (got x) b used =
+    by-pick (λ (z : List ℕ). take used z ≡ take used b) (has-text (choice (counting (unrolled x .ended) (with-indents (unrolled x .indents) x)))) (cleared b used) b (cleared-front b used) refl
 
-pub left-front : (d : Read definition.State) (b : List ℕ) (used k : ℕ) → k ≤ used → take k (way-left d b used) ≡ take k b
-unfolding way-left
-left-front (refused n m) b used k h = refl
-left-front (got x) b used k h =
-    by-pick (λ (z : List ℕ). take k z ≡ take k b) (has-text (choice (counting (unrolled x .ended) (with-indents (unrolled x .indents) x)))) (cleared b used) b (cleared-front b used k h) refl
+-- the flow level is how many levels the definition sees
 
-levels-length : (stacks : List ℕ) (d : ℕ) → length (frame-levels stacks d) ≡ d
+pub levels-length : (stacks : List ℕ) (d : ℕ) → length (frame-levels stacks d) ≡ d
 unfolding frame-levels
 levels-length stacks zero = refl
 levels-length stacks (suc d) = ap suc (levels-length stacks d)
 
 -- one step of those
 
-step-driven : (limits : Limits) (test : definition.State → Counts → Halt) (k : ℕ) (s : definition.State) (n : Counts) {es : List Event} {y : definition.State} {m : Counts}
+step-driven : (limits : Limits) (test : Test) (k : ℕ) (w : Pending) (s : definition.State) (n : Counts) {es : List Event} {y : definition.State} {m : Counts}
     → step limits s ≡ got (goes-on es y) → m ≡ counts-after n es
-    → driven limits test (suc k) s n ≡ after-halt (test y m) es (length (s .levels)) y m (λ t j. driven limits test k t j)
+    → driven limits test (suc k) w s n ≡ after-halt (test w (length (s .levels)) y m) es w y m (λ v t j. driven limits test k v t j)
 unfolding driven
-step-driven limits test k s n same e = rw (same, e)
+step-driven limits test k w s n same e = rw (same, e)
 
-module _ (limits : Limits) (text : List ℕ) (test : definition.State → Counts → Halt) where
+module _ (limits : Limits) (text : List ℕ) (test : Test) where
   -- with so much of a budget as there are characters left, and one more
-  abbrev pub all-driven : definition.State → Counts → Driven
-  all-driven s n = driven limits test (suc (left (s .place))) s n
+  abbrev pub all-driven : Pending → definition.State → Counts → Driven
+  all-driven w s n = driven limits test (suc (left (s .place))) w s n
 
-  -- all steps, which come to d, are those that were stored, and those from t with its stacks
-  pub record Driving (d : Driven) (base : ℕ) (n₀ : Counts) (l₀ b₀ stacks l b : List ℕ) (t : State) (n : Counts) : Type 0 where
+  -- all steps, which come to d, are those that were stored, and those from t with its stacks, where w is pending
+  pub record Driving (d : Driven) (base : ℕ) (n₀ : Counts) (l₀ b₀ : List ℕ) (w : Pending) (stacks l b : List ℕ) (t : State) (n : Counts) : Type 0 where
     pub said : List Event
-    pub whole : d ≡ behind-events said (all-driven (state-of text stacks (n .count) t) n)
+    pub whole : d ≡ behind-events said (all-driven w (state-of text stacks (n .count) t) n)
     pub stored : Stored base n₀ n l₀ b₀ l b said
     pub given : StepGiven limits text stacks t n
 
   -- and the test behind the last of them, which was made from that flow level, is still to be asked
-  pub record Halting (d : Driven) (base : ℕ) (n₀ : Counts) (l₀ b₀ : List ℕ) (level : ℕ) (stacks l b : List ℕ) (t : State) (n : Counts) : Type 0 where
+  pub record Halting (d : Driven) (base : ℕ) (n₀ : Counts) (l₀ b₀ : List ℕ) (w : Pending) (level : ℕ) (stacks l b : List ℕ) (t : State) (n : Counts) : Type 0 where
     pub said : List Event
-    pub whole : d ≡ after-halt (test (state-of text stacks (n .count) t) n) said level (state-of text stacks (n .count) t) n all-driven
+    pub whole : d ≡ after-halt (test w level (state-of text stacks (n .count) t) n) said w (state-of text stacks (n .count) t) n all-driven
     pub stored : Stored base n₀ n l₀ b₀ l b said
     pub given : StepGiven limits text stacks t n
     pub more : base < n .count
 
-  pub driving-start : {stacks : List ℕ} {s : State} {n : Counts} (base : ℕ) (l b : List ℕ) → StepGiven limits text stacks s n
-      → Driving (all-driven (state-of text stacks (n .count) s) n) base n l b stacks l b s n
-  driving-start {stacks} {s} {n} base l b h =
-      record { said = []; whole = behind-none (all-driven (state-of text stacks (n .count) s) n); stored = stored-none base n l b; given = h }
-
-  module _ {d : Driven} {base : ℕ} {n₀ : Counts} {l₀ b₀ stacks l b : List ℕ} {t : State} {n : Counts} (low : base ≤ n₀ .count)
-      (g : Driving d base n₀ l₀ b₀ stacks l b t n) where
+  module _ {d : Driven} {base : ℕ} {n₀ : Counts} {l₀ b₀ : List ℕ} {w : Pending} {stacks l b : List ℕ} {t : State} {n : Counts} (low : base ≤ n₀ .count)
+      (g : Driving d base n₀ l₀ b₀ w stacks l b t n) where
     abbrev x : definition.State
     x = state-of text stacks (n .count) t
 
@@ -127,13 +114,13 @@ module _ (limits : Limits) (text : List ℕ) (test : definition.State → Counts
 
     -- one step more
     pub driving-on : {e z l' b' : List ℕ} {u : State} {m : Counts} → StepDone limits text e (step limits x) base n l b z l' b' (On u m)
-        → Halting d base n₀ l₀ b₀ (t .«flow_level») e l' b' u m
-    driving-on {e} {l' = l'} {b'} {u} {m} w =
-        let a = w .answers in
-        by-events (events-of (step limits x)) (a .same) (record { words = w .words; bytes = a .bytes; counts = a .counts }) (a .given)
+        → Halting d base n₀ l₀ b₀ w (t .«flow_level») e l' b' u m
+    driving-on {e} {l' = l'} {b'} {u} {m} q =
+        let a = q .answers in
+        by-events (events-of (step limits x)) (a .same) (record { words = q .words; bytes = a .bytes; counts = a .counts }) (a .given)
       where
         by-events : (es : List Event) → step limits x ≡ got (goes-on es (state-of text e (m .count) u)) → Stored base n m l b l' b' es → StepGiven limits text e u m
-            → Halting d base n₀ l₀ b₀ (t .«flow_level») e l' b' u m
+            → Halting d base n₀ l₀ b₀ w (t .«flow_level») e l' b' u m
         by-events es same stored given =
             let y = state-of text e (m .count) u in
             let less = all-got (step-news [] limits x) same .takes in
@@ -141,9 +128,9 @@ module _ (limits : Limits) (text : List ℕ) (test : definition.State → Counts
             record {
               said = g .said ++ es;
               whole =
-                  g .whole ∙ ap (λ (o : Driven). behind-events (g .said) o) (step-driven limits test (left (view text (t .place))) x n same (counts-are (stored .counts)))
-                  ∙ behind-halt (test y m) (g .said) es (length (x .levels)) y m (λ u j. driven limits test (left (view text (t .place))) u j) all-driven (driven-enough limits test (left (view text (t .place))) y m less)
-                  ∙ ap (λ (k : ℕ). after-halt (test y m) (g .said ++ es) k y m all-driven) (levels-length stacks (t .«flow_level»));
+                  g .whole ∙ ap (λ (o : Driven). behind-events (g .said) o) (step-driven limits test (left (view text (t .place))) w x n same (counts-are (stored .counts)))
+                  ∙ behind-halt (test w (length (x .levels)) y m) (g .said) es w y m (λ v u j. driven limits test (left (view text (t .place))) v u j) all-driven (λ v. driven-enough limits test (left (view text (t .place))) v y m less)
+                  ∙ ap (λ (k : ℕ). after-halt (test w k y m) (g .said ++ es) w y m all-driven) (levels-length stacks (t .«flow_level»));
               stored = stored-then low (g .stored) stored;
               given = given;
               more = omega (arith, driving-low, last .1 .numbered, last .2);
@@ -152,4 +139,4 @@ module _ (limits : Limits) (text : List ℕ) (test : definition.State → Counts
     -- what is left of the text falls
     pub driving-less : {e z l' b' : List ℕ} {u : State} {m : Counts} → StepDone limits text e (step limits x) base n l b z l' b' (On u m)
         → left (view text (u .place)) < left (view text (t .place))
-    driving-less w = all-got (step-news [] limits x) (w .answers .same) .takes
+    driving-less q = all-got (step-news [] limits x) (q .answers .same) .takes

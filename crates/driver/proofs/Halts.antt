@@ -11,18 +11,18 @@ use borrow.Author.Tests.{eqb-false, eqb-true, le-ltb, lt-ltb, ltb-false, ltb-tru
 use Rattle.yaml_text.specs.declared.Mark.{Mark}
 use Rattle.yaml_text.specs.Mark.{origin}
 use Rattle.yaml_text.specs.Pick.{pick}
-use Rattle.yaml_text.specs.Test.{by-test}
+use Rattle.yaml_text.specs.Test.{by-pick, by-test}
 use Rattle.yaml_scan.specs.declared.Candidate.{Candidate}
 use Rattle.yaml_scan.specs.declared.Candidate.the-variants.{Absent, Possible}
+use Rattle.yaml_stream.specs.Stream.{most-waiting, too-many-wait}
+use Rattle.yaml_stream.specs.Levels.{level-key}
 use Rattle.yaml_stream.specs.Lowest.{names}
-use Rattle.stacks.specs.Bit.{bit}
 use Rattle.stacks.specs.Frame.{frame-keys, key-of}
-use Rattle.stacks.specs.Most.{at-most}
 use Rattle.events.specs.declared.Counts.{Counts}
 use Rattle.states.specs.declared.State.{State}
-use Rattle.yaml_stream.specs.Levels.{level-key}
-use Rattle.stream_laws.specs.Driven.{Halt, crowded, go-on, one-by-one, pause, refuse, test-of}
-use Rattle.driver.specs.Held.{put-counts, put-state, put-waiting, stacks-held, until, until-at, waiting-at}
+use Rattle.stream_laws.specs.declared.Pending.{Pending}
+use Rattle.stream_laws.specs.Driven.{Halt, crowded, go-on, if-enough, one-by-one, pause, refuse, slots-ahead, test-of, then-pending}
+use Rattle.driver.specs.Held.{level-at, put-counts, put-pending, put-state, put-until}
 
 keys-length : (e : List ℕ) (d : ℕ) → length (frame-keys e d) ≡ d
 unfolding frame-keys
@@ -45,38 +45,57 @@ unfolding frame-keys level-key
 key-closed e l zero h = refl
 key-closed e l (suc d) h = let o : l ≡ d → ⊥ = λ i. omega arith in rw (keys-length e d, ne-eqb l d o, level-key) (key-closed e l d (omega arith))
 
-module _ (room base level : ℕ) (n m : Counts) (e : List ℕ) (d : ℕ) (p : Mark) where
+module _ (room base : ℕ) (w : Pending) (level : ℕ) (e : List ℕ) (d : ℕ) (p : Mark) (m : Counts) where
   abbrev says : Halt
-  says = one-by-one room base level n (frame-keys e (suc d)) p m
+  says = one-by-one room base w level (frame-keys e (suc d)) d p m
 
   pub one-full : room < m .used → refuse 5 origin ≡ says
   unfolding one-by-one
   one-full h = rw (lt-ltb room (m .used) h)
 
-  pub one-named : m .used ≤ room → {b : Bool} → b ≡ names base (level-key level (frame-keys e (suc d))) → pick b (crowded base n m p) pause ≡ says
+  pub one-named : m .used ≤ room → {b : Bool} → b ≡ names (w .number) (level-key (w .level) (frame-keys e (suc d)))
+      → pick b (crowded w m p) (if-enough base (then-pending level (frame-keys e (suc d)) d m)) ≡ says
   unfolding one-by-one
   one-named h q = rw (le-ltb room (m .used) h, ← q)
 
+  -- the next that is pending
+  pub one-others : m .used ≤ room → {v : Pending} → false ≡ names (w .number) (level-key (w .level) (frame-keys e (suc d))) → v ≡ then-pending level (frame-keys e (suc d)) d m
+      → if-enough base v ≡ says
+  one-others h q f = ap (λ (v : Pending). if-enough base v) f ∙ one-named h q
+
 -- 51
 
-module _ (base : ℕ) (n m : Counts) (p : Mark) where
-  pub crowded-full : 4_096 < m .count - base + (m .«put_in» - n .«put_in») → refuse 51 p ≡ crowded base n m p
+module _ (w : Pending) (m : Counts) (p : Mark) where
+  pub crowded-full : 4_096 < m .count - w .number + (m .«put_in» - w .«put_in») → refuse 51 p ≡ crowded w m p
   unfolding crowded
-  crowded-full h = rw (lt-ltb 4_096 (m .count - base + (m .«put_in» - n .«put_in»)) h)
+  crowded-full h = rw (lt-ltb 4_096 (m .count - w .number + (m .«put_in» - w .«put_in»)) h)
 
-  pub crowded-on : m .count - base + (m .«put_in» - n .«put_in») ≤ 4_096 → go-on ≡ crowded base n m p
+  pub crowded-on : m .count - w .number + (m .«put_in» - w .«put_in») ≤ 4_096 → go-on w ≡ crowded w m p
   unfolding crowded
-  crowded-on h = rw (le-ltb 4_096 (m .count - base + (m .«put_in» - n .«put_in»)) h)
+  crowded-on h = rw (le-ltb 4_096 (m .count - w .number + (m .«put_in» - w .«put_in»)) h)
 
--- how many slots can be given
+-- what is pending then, and whether enough can be given
 
-pub until-named : (ks : List Candidate) (base level : ℕ) (n : Counts) {b : Bool} → b ≡ names (n .count - 1) (level-key level ks) → n .count - base - bit b ≡ until ks base n level
-unfolding until
-until-named ks base level n {b} e = rw (← e) (by-bit b)
-  where
-    by-bit : (b : Bool) → n .count - base - bit b ≡ pick b (n .count - base - 1) (n .count - base)
-    by-bit true = refl
-    by-bit false = omega arith
+pub pending-then : (level : ℕ) (ks : List Candidate) (flow : ℕ) (m : Counts) {b : Bool} → b ≡ names (m .count - 1) (level-key level ks)
+    → pick b (record { number = m .count - 1; level = level; «put_in» = m .«put_in» }) (record { number = m .count; level = flow; «put_in» = m .«put_in» }) ≡ then-pending level ks flow m
+unfolding then-pending
+pending-then level ks flow m q = rw (← q)
+
+pub then-least : {base : ℕ} {v : Pending} (level : ℕ) (ks : List Candidate) (flow : ℕ) (m : Counts) → base < m .count → v ≡ then-pending level ks flow m → base ≤ v .number
+unfolding then-pending
+then-least {base} level ks flow m h e =
+    rw e
+    (by-pick (λ (v : Pending). base ≤ v .number) (names (m .count - 1) (level-key level ks)) (record { number = m .count - 1; level = level; «put_in» = m .«put_in» })
+    (record { number = m .count; level = flow; «put_in» = m .«put_in» }) (omega arith) (omega arith))
+
+module _ (base : ℕ) (w : Pending) where
+  pub enough-more : w .number - base < slots-ahead → go-on w ≡ if-enough base w
+  unfolding if-enough
+  enough-more h = rw (lt-ltb (w .number - base) slots-ahead h)
+
+  pub enough-ready : slots-ahead ≤ w .number - base → pause w ≡ if-enough base w
+  unfolding if-enough
+  enough-ready h = rw (le-ltb (w .number - base) slots-ahead h)
 
 -- the candidate of a level by its number
 
@@ -88,27 +107,60 @@ pub not-named : (k : ℕ) {c : Candidate} → c ≡ Absent → false ≡ names k
 unfolding names
 not-named k e = rw e
 
-pub waiting-put : (h : List ℕ) (base flow level : ℕ) (k : Counts) {w : ℕ} {b : Bool} → w ≡ level → b ≡ names (k .count - 1) (level-key level (frame-keys (stacks-held h) (suc flow)))
-    → set (set h waiting-at w) until-at (k .count - base - bit b) ≡ put-waiting h base k level flow
-waiting-put h base flow level k e q = rw (e, until-named (frame-keys (stacks-held h) (suc flow)) base level k q)
-
-pub hold-put : (h : List ℕ) (t : State) (k : Counts) (base level : ℕ) {a b d : List ℕ} → a ≡ put-state h t → b ≡ put-counts a k → d ≡ put-waiting b base k level (t .«flow_level»)
-    → d ≡ put-waiting (put-counts (put-state h t) k) base k level (t .«flow_level»)
-hold-put h t k base level e f g = g ∙ ap (λ (z : List ℕ). put-waiting z base k level (t .«flow_level»)) (f ∙ ap (λ (z : List ℕ). put-counts z k) e)
-
--- the level that waits
-
-pub level-waits : (base count w level : ℕ) {r : ℕ} → base < count → r ≡ at-most 255 w → r ≡ pick (ltb base count) (at-most 255 w) level
-level-waits base count w level h e = rw (lt-ltb base count h) e
-
-pub level-next : (base count w level : ℕ) → count ≤ base → level ≡ pick (ltb base count) (at-most 255 w) level
-level-next base count w level h = rw (le-ltb base count h)
-
 -- the test is asked, or not
 
-module _ (room base level : ℕ) (n : Counts) (ks : List Candidate) (p : Mark) (m : Counts) where
-  pub test-one : {single : Bool} → single ≡ true → one-by-one room base level n ks p m ≡ test-of single room base level n ks p m
+module _ (room base : ℕ) (w : Pending) (level : ℕ) (ks : List Candidate) (flow : ℕ) (p : Mark) (m : Counts) where
+  pub test-one : {single : Bool} → single ≡ true → one-by-one room base w level ks flow p m ≡ test-of single room base w level ks flow p m
   test-one e = rw e
 
-  pub test-none : {single : Bool} → single ≡ false → go-on ≡ test-of single room base level n ks p m
+  pub test-none : {single : Bool} → single ≡ false → go-on w ≡ test-of single room base w level ks flow p m
   test-none e = rw e
+
+-- what is pending has a number from that of slot 0 up to the count, and a level that is within the limits
+
+pub record Fits (base : ℕ) (m : Counts) (w : Pending) : Type 0 where
+  pub least : base ≤ w .number
+  pub within : w .number ≤ m .count
+  pub low : w .level ≤ 255
+  pub fewer : w .«put_in» ≤ m .«put_in»
+
+abbrev pub HaltFits : ℕ → Counts → Halt → Type 0
+HaltFits base m (go-on w) = Fits base m w
+HaltFits base m (pause w) = Fits base m w
+HaltFits base m (refuse k p) = Unit {0}
+
+module _ (base : ℕ) (m : Counts) (more : base < m .count) where
+  then-fits : (level : ℕ) (ks : List Candidate) (flow : ℕ) → level ≤ 255 → flow ≤ 255 → Fits base m (then-pending level ks flow m)
+  unfolding then-pending
+  then-fits level ks flow h k =
+      by-pick (Fits base m) (names (m .count - 1) (level-key level ks)) (record { number = m .count - 1; level = level; «put_in» = m .«put_in» })
+      (record { number = m .count; level = flow; «put_in» = m .«put_in» })
+      (record { least = omega arith; within = omega arith; low = h; fewer = omega arith })
+      (record { least = omega arith; within = omega arith; low = k; fewer = omega arith })
+
+  enough-fits : (w : Pending) → Fits base m w → HaltFits base m (if-enough base w)
+  unfolding if-enough
+  enough-fits w f = by-pick (HaltFits base m) (ltb (w .number - base) slots-ahead) (go-on w) (pause w) f f
+
+  crowded-fits : (w : Pending) (p : Mark) → Fits base m w → HaltFits base m (crowded w m p)
+  unfolding crowded
+  crowded-fits w p f =
+      by-pick (HaltFits base m) (ltb most-waiting (m .count - w .number + (m .«put_in» - w .«put_in»))) (refuse too-many-wait p) (go-on w) tt f
+
+  -- and so has what is pending behind the test
+  pub test-fits : (one : Bool) (room : ℕ) (w : Pending) (level : ℕ) (ks : List Candidate) (flow : ℕ) (p : Mark) → Fits base m w → level ≤ 255 → flow ≤ 255
+      → HaltFits base m (test-of one room base w level ks flow p m)
+  unfolding one-by-one
+  test-fits false room w level ks flow p f h k = f
+  test-fits true room w level ks flow p f h k =
+      by-pick (HaltFits base m) (ltb room (m .used)) (refuse 5 origin)
+      (pick (names (w .number) (level-key (w .level) ks)) (crowded w m p) (if-enough base (then-pending level ks flow m))) tt
+      (by-pick (HaltFits base m) (names (w .number) (level-key (w .level) ks)) (crowded w m p) (if-enough base (then-pending level ks flow m)) (crowded-fits w p f)
+      (enough-fits (then-pending level ks flow m) (then-fits level ks flow h k)))
+
+-- what is held then
+
+pub hold-put : (h : List ℕ) (t : State) (k : Counts) (base : ℕ) (w : Pending) {v : ℕ} {a b d : List ℕ} → a ≡ put-state h t → b ≡ put-counts a k → v ≡ w .level
+    → d ≡ put-until (set b level-at v) base w → d ≡ put-pending (put-counts (put-state h t) k) base w
+hold-put h t k base w {b = b} e f q g =
+    g ∙ ap (λ (z : ℕ). put-until (set b level-at z) base w) q ∙ ap (λ (z : List ℕ). put-pending z base w) (f ∙ ap (λ (z : List ℕ). put-counts z k) e)

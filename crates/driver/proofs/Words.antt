@@ -18,7 +18,8 @@ use Rattle.stacks.proofs.Frames.{bit-is, digit, getD-sets, getD-sets-other}
 use Rattle.events.specs.declared.Counts.{Counts}
 use Rattle.states.specs.declared.State.{State}
 use Rattle.storing.specs.Step.{StepGiven}
-use Rattle.driver.specs.Held.{Modest, at-held, count-words, counts-at, counts-held, depth-held, held-words, index-held, mark-at, number-at, place-held, put-counts, put-state, stacks-held, state-at, state-held, state-words, word}
+use Rattle.stream_laws.specs.declared.Pending.{Pending}
+use Rattle.driver.specs.Held.{Modest, at-held, count-words, counts-at, counts-held, depth-held, held-words, index-held, level-at, mark-at, number-at, pending-held, place-held, put-counts, put-state, stacks-held, state-at, state-held, state-words, word}
 
 -- whatever the words are
 pub held-given : {limits : Limits} {text : List ℕ} (h : List ℕ) → Modest limits → length text ≤ 1_048_576 → length h ≡ held-words
@@ -151,6 +152,10 @@ pub counts-loaded : {len at a b c : ℕ} (text h : List ℕ) → len ≡ length 
     → a ≡ at-most (1 + 512 * at) (word h counts-at) → b ≡ at-most (2 * at) (word h (counts-at + 1)) → c ≡ at-most (3 * at) (word h (counts-at + 2))
     → _≡_ {A = Counts} (record { count = a; «put_in» = b; used = c }) (counts-held text h)
 counts-loaded text h e short f a b c = let g = at-short text h e short f .0 in rw (a, b, c, f, g)
+
+pub pending-loaded : {level : ℕ} (h : List ℕ) (base : ℕ) (n : Counts) → level ≡ at-most 255 (word h level-at)
+    → _≡_ {A = Pending} (record { number = base; level = level; «put_in» = n .«put_in» }) (pending-held h base n)
+pending-loaded h base n e = rw e
 
 module _ {limits : Limits} (m : Modest limits) where
   pub limit-words : {entries levels : ℕ} → entries ≡ limits .entries % 2 ^ 32 → levels ≡ limits .levels % 2 ^ 32 → (entries ≡ limits .entries) × (levels ≡ limits .levels)

@@ -1,28 +1,24 @@
 -- What is held between two calls, as words: the stacks, then what waits, the counts, and the state of the scan. Whatever the words hold, a
 -- state is read out of them: a number above what can stand there counts as the highest that can.
-use Prim.Native.Nat.{_%_, _*_, _+_, _-_, _/_, _≤_, suc, ℕ}
+use Prim.Native.Nat.{_%_, _*_, _+_, _-_, _/_, _≤_, ℕ}
 use mathlib.Core.List.{List, [], _∷_}
 use mathlib.Core.Path.{_≡_, refl}
 use lib.Dec.{eqb}
 use lib.ListN.{getD, length, set, take}
 use lib.Seq.{sets}
 use Rattle.yaml_text.specs.declared.Mark.{Mark}
-use Rattle.yaml_text.specs.Pick.{pick}
-use Rattle.yaml_scan.specs.declared.Candidate.{Candidate}
 use Rattle.yaml_scan.specs.declared.Limits.{Limits}
 use Rattle.yaml_scan.specs.Scan.{standard}
 use Rattle.yaml_scan.specs.State as definition
-use Rattle.yaml_stream.specs.Levels.{level-key}
-use Rattle.yaml_stream.specs.Lowest.{names}
 use Rattle.chars.specs.declared.mark.Place.{Place}
 use Rattle.stacks.specs.Bit.{bit}
-use Rattle.stacks.specs.Frame.{frame-keys}
 use Rattle.stacks.specs.Indent.{most-at}
 use Rattle.stacks.specs.Most.{at-most}
 use Rattle.stacks.specs.Stack.{stack-words}
 use Rattle.events.specs.declared.Counts.{Counts}
 use Rattle.states.specs.declared.State.{State}
 use Rattle.states.specs.State.{state-of}
+use Rattle.stream_laws.specs.declared.Pending.{Pending}
 
 -- limits that are at most 01's
 pub record Modest (limits : Limits) : Type 0 where
@@ -48,9 +44,9 @@ slot-at = stack-words + 2
 abbrev pub until-at : ℕ
 until-at = stack-words + 3
 
--- the flow level of the candidate that waits there
-abbrev pub waiting-at : ℕ
-waiting-at = stack-words + 4
+-- the flow level whose candidate the token there may be
+abbrev pub level-at : ℕ
+level-at = stack-words + 4
 
 -- three words: the counts
 abbrev pub counts-at : ℕ
@@ -144,12 +140,15 @@ count-words n = n .count ∷ n .«put_in» ∷ n .used ∷ []
 abbrev pub put-counts : List ℕ → Counts → List ℕ
 put-counts h n = sets h counts-at (count-words n)
 
--- what waits
+-- what is pending
 
--- how many slots can be given: all, or all but the last, where that is the candidate of the flow level from which the last step was made
-unfoldable pub until : List Candidate → ℕ → Counts → ℕ → ℕ
-until ks base n level = pick (names (n .count - 1) (level-key level ks)) (n .count - base - 1) (n .count - base)
+-- the token in slot 0; n: the counts that are held
+abbrev pub pending-held : List ℕ → ℕ → Counts → Pending
+pending-held h base n = record { number = base; level = at-most 255 (word h level-at); «put_in» = n .«put_in» }
 
--- flow: the flow level behind that step
-abbrev pub put-waiting : List ℕ → ℕ → Counts → ℕ → ℕ → List ℕ
-put-waiting h base n level flow = set (set h waiting-at level) until-at (until (frame-keys (stacks-held h) (suc flow)) base n level)
+-- tokens can be given up to the one that is pending
+abbrev pub put-until : List ℕ → ℕ → Pending → List ℕ
+put-until h base w = set h until-at (w .number - base)
+
+abbrev pub put-pending : List ℕ → ℕ → Pending → List ℕ
+put-pending h base w = put-until (set h level-at (w .level)) base w

@@ -13,6 +13,8 @@ use states::State;
 use yaml_scan::Limits;
 use yaml_text::Mark;
 
+// The stacks are the words before this.
+pub const STACKS: usize = STACK_WORDS;
 // 0: fresh; 1: scanning; 2: StreamEnd was scanned; any other: refused.
 pub const PHASE: usize = STACK_WORDS;
 // The number of the token in slot 0.
@@ -21,8 +23,8 @@ pub const BASE: usize = STACK_WORDS + 1;
 pub const SLOT: usize = STACK_WORDS + 2;
 // The slot up to which tokens can be given.
 pub const UNTIL: usize = STACK_WORDS + 3;
-// The flow level of the candidate that waits there.
-pub const WAITING: usize = STACK_WORDS + 4;
+// The flow level whose candidate the token there may be.
+pub const LEVEL: usize = STACK_WORDS + 4;
 // Three words: the counts.
 pub const COUNTS: usize = STACK_WORDS + 5;
 // Nine words: the state.

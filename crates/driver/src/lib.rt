@@ -4,30 +4,29 @@ pub mod held;
 ghost use Prim.Native.Nat.{_+_, _-_, _^_, _<_, _≤_, suc};
 ghost use mathlib.Core.Bool.{false, true};
 ghost use mathlib.Core.Path.{_≡_};
-ghost use lib.Dec.{ltb};
 ghost use lib.ListN.{length};
-ghost use Rattle.yaml_text.specs.Pick.{pick};
 ghost use Rattle.yaml_scan.specs.Choice.{choice};
 ghost use Rattle.yaml_scan.specs.Scan.{step};
 ghost use Rattle.yaml_stream.specs.Levels.{level-key};
 ghost use Rattle.yaml_stream.specs.Lowest.{names};
 ghost use Rattle.choices.specs.Choice.{AsDefined};
 ghost use Rattle.stacks.specs.Frame.{frame-keys};
-ghost use Rattle.stacks.specs.Most.{at-most};
 ghost use Rattle.stacks.specs.Stack.{stack-words};
 ghost use Rattle.states.specs.State.{state-of};
 ghost use Rattle.sink.specs.Stored.{counts-ending};
 ghost use Rattle.steps.specs.Step.{is-brief};
 ghost use Rattle.storing.specs.Step.{StepGiven, step-left, token-left};
 ghost use Rattle.driver.specs.Behind.{halt-of};
-ghost use Rattle.stream_laws.specs.Driven.{crowded, one-by-one, refuse, test-of};
+ghost use Rattle.stream_laws.specs.declared.Pending.{Pending};
+ghost use Rattle.stream_laws.specs.Driven.{crowded, if-enough, one-by-one, refuse, test-of, then-pending};
 ghost use Rattle.yaml_text.specs.Mark.{origin};
 ghost use Rattle.driver.specs.Drives.{Drives};
-ghost use Rattle.driver.specs.Held.{Modest, held-words, put-counts, put-state, put-waiting, waiting-at, word};
+ghost use Rattle.driver.specs.Held.{Modest, held-words, pending-held, put-counts, put-pending, put-state, put-until};
 ghost use Rattle.driver.specs.Step.{StepDone, token-news};
 use crate::held::BASE;
+use crate::held::LEVEL;
+use crate::held::STACKS;
 use crate::held::UNTIL;
-use crate::held::WAITING;
 use crate::held::load_counts;
 use crate::held::load_state;
 use crate::held::store_counts;
@@ -42,7 +41,6 @@ use rooms::as_word;
 use sink::put_brief;
 use sink::put_entry;
 use sink::put_news;
-use stacks::STACK_WORDS;
 use stacks::at_most;
 use stacks::frame::key;
 use states::Brief;
@@ -51,6 +49,7 @@ use states::State;
 use steps::fetch_brief;
 use steps::fetch_other;
 use steps::is_brief;
+use stream_laws::Pending;
 use yaml_scan::Candidate;
 use yaml_scan::Choice;
 use yaml_scan::Limits;
@@ -62,7 +61,7 @@ pub enum Outcome {
     // StreamEnd was scanned.
     Scanned(Counts),
     Stopped(Refusal),
-    // The first token that waits is no possible key; the state is held.
+    // Enough tokens can be given; the state is held.
     Ready,
 }
 
@@ -73,15 +72,19 @@ enum Stepped {
     Refused(Refusal),
 }
 
-// Behind a step, where tokens are given one at a time: on; the first can be given; or a refusal.
+// Behind a step: on; on, and something else is pending; enough can be given, and this is pending; or a refusal.
 enum Behind {
     On,
-    Ready,
+    More(Pending),
+    Ready(Pending),
     Refused(Refusal),
 }
 
 // So many tokens may wait before a step.
 const MOST_WAITING: u32 = 4_096;
+
+// So many slots with tokens that can be given are enough: the state is read and held once for all of them.
+const SLOTS_AHEAD: u32 = 32;
 
 // The counts behind so many ends of blocks.
 fn ending(n: Counts, ended: u32) -> Counts
@@ -118,7 +121,7 @@ fn brief_token(
         Brief::Goes { state, pair, token } => {
             put_brief(words, n.count - base, s.place.mark, ended, pair, token);
             Stepped::On {
-                state: state,
+                state: state.anew(),
                 counts: k.counting(brief_event(pair, Opening::FlowMappingEnd, token)),
             }
         }
@@ -129,7 +132,7 @@ fn brief_token(
         } => {
             put_entry(words, n.count - base, s.place.mark, ended, starts, token);
             Stepped::On {
-                state: state,
+                state: state.anew(),
                 counts: k.counting(brief_event(starts, Opening::BlockSequenceStart, token)),
             }
         }
@@ -270,20 +273,9 @@ fn is_named(stacks: &[u32], flow: usize, level: usize, number: u32) -> bool
     number == token_number
 }
 
-// The level whose candidate waits first, as it is held; where nothing waits, that of the next token.
-fn waiting_level(held: &[u32], base: u32, count: u32, level: usize) -> usize
-    requires { ⌜ length (now held) ≡ held-words ⌝ }
-    ensures { λ r. ⌜ r ≡ pick (ltb base count) (at-most 255 (word (now (held .entry)) waiting-at)) level ⌝ }
-{
-    if base < count {
-        return at_most(255, held[WAITING]) as usize;
-    }
-    level
-}
-
 // 5: the texts are more than the bytes lent. It has no place in the text.
 fn no_room() -> Behind
-    ensures { λ r. ⌜ halt-of r ≡ refuse 5 origin ⌝ }
+    ensures { λ r. ⌜ ((w : Pending) → halt-of w r ≡ refuse 5 origin) ⌝ }
 {
     let m = Mark {
         index: 0,
@@ -294,11 +286,11 @@ fn no_room() -> Behind
 }
 
 // 51, where too many wait, or on.
-fn too_many(base: u32, n: Counts, k: Counts, here: Mark) -> Behind
-    requires { ⌜ (base ≤ k .count) × (n .«put_in» ≤ k .«put_in») × (k .count + k .«put_in» < 2 ^ 32) ⌝ }
-    ensures { λ r. ⌜ halt-of r ≡ crowded base n k here ⌝ }
+fn too_many(w: Pending, k: Counts, here: Mark) -> Behind
+    requires { ⌜ (w .number ≤ k .count) × (w .«put_in» ≤ k .«put_in») × (k .count + k .«put_in» < 2 ^ 32) ⌝ }
+    ensures { λ r. ⌜ halt-of w r ≡ crowded w k here ⌝ }
 {
-    if MOST_WAITING < k.count - base + (k.put_in - n.put_in) {
+    if MOST_WAITING < k.count - w.number + (k.put_in - w.put_in) {
         return Behind::Refused(Refusal {
             number: 51,
             mark: here,
@@ -307,26 +299,56 @@ fn too_many(base: u32, n: Counts, k: Counts, here: Mark) -> Behind
     Behind::On
 }
 
-// Where tokens are given one at a time, behind a step to the state t, with the counts k: 5; whether the first that waits can be given; 51.
+// What is pending where all tokens but the last can be given, behind a step from that level.
+fn then_pending(stacks: &[u32], level: usize, flow: usize, k: Counts) -> Pending
+    requires { ⌜ (level ≤ 255) × (stack-words ≤ length (now stacks)) × (0 < k .count) ⌝ }
+    ensures { λ r. ⌜ r ≡ then-pending level (frame-keys (now (stacks .entry)) (suc flow)) flow k ⌝ }
+{
+    if is_named(stacks, flow, level, k.count - 1) {
+        return Pending {
+            number: k.count - 1,
+            level: level,
+            put_in: k.put_in,
+        };
+    }
+    Pending {
+        number: k.count,
+        level: flow,
+        put_in: k.put_in,
+    }
+}
+
+// Enough can be given, or on.
+fn if_enough(base: u32, w: Pending) -> Behind
+    requires { ⌜ base ≤ w .number ⌝ }
+    ensures { λ r. ⌜ ((v : Pending) → halt-of v r ≡ if-enough base w) ⌝ }
+{
+    if w.number - base < SLOTS_AHEAD {
+        return Behind::More(w);
+    }
+    Behind::Ready(w)
+}
+
+// Where tokens are given one at a time, behind a step from that level to the state t, with the counts k: 5; 51; whether enough can be given.
 fn behind_one(
     room: usize,
     base: u32,
+    w: Pending,
     level: usize,
-    n: Counts,
     t: State,
     k: Counts,
     stacks: &[u32],
 ) -> Behind
-    requires { ⌜ (level ≤ 255) × (stack-words ≤ length (now stacks)) × (base ≤ k .count) × (n .«put_in» ≤ k .«put_in») × (k .count + k .«put_in» < 2 ^ 32) ⌝ }
-    ensures { λ r. ⌜ halt-of r ≡ one-by-one room base level n (frame-keys (now (stacks .entry)) (suc (t .«flow_level»))) (t .place .mark) k ⌝ }
+    requires { ⌜ (w .level ≤ 255) × (level ≤ 255) × (stack-words ≤ length (now stacks)) × (base < k .count) × (w .number ≤ k .count) × (w .«put_in» ≤ k .«put_in») × (k .count + k .«put_in» < 2 ^ 32) ⌝ }
+    ensures { λ r. ⌜ halt-of w r ≡ one-by-one room base w level (frame-keys (now (stacks .entry)) (suc (t .«flow_level»))) (t .«flow_level») (t .place .mark) k ⌝ }
 {
     if room < k.used as usize {
         return no_room();
     }
-    if is_named(stacks, t.flow_level, level, base) {
-        return too_many(base, n, k, t.place.mark);
+    if is_named(stacks, t.flow_level, w.level, w.number) {
+        return too_many(w, k, t.place.mark);
     }
-    Behind::Ready
+    if_enough(base, then_pending(stacks, level, t.flow_level, k))
 }
 
 // Behind a step. In the one call nothing is asked.
@@ -334,42 +356,53 @@ fn behind_step(
     single: bool,
     room: usize,
     base: u32,
+    w: Pending,
     level: usize,
-    n: Counts,
     t: State,
     k: Counts,
     stacks: &[u32],
 ) -> Behind
-    requires { ⌜ (level ≤ 255) × (stack-words ≤ length (now stacks)) × (base ≤ k .count) × (n .«put_in» ≤ k .«put_in») × (k .count + k .«put_in» < 2 ^ 32) ⌝ }
-    ensures { λ r. ⌜ halt-of r ≡ test-of single room base level n (frame-keys (now (stacks .entry)) (suc (t .«flow_level»))) (t .place .mark) k ⌝ }
+    requires { ⌜ (w .level ≤ 255) × (level ≤ 255) × (stack-words ≤ length (now stacks)) × (base < k .count) × (w .number ≤ k .count) × (w .«put_in» ≤ k .«put_in») × (k .count + k .«put_in» < 2 ^ 32) ⌝ }
+    ensures { λ r. ⌜ halt-of w r ≡ test-of single room base w level (frame-keys (now (stacks .entry)) (suc (t .«flow_level»))) (t .«flow_level») (t .place .mark) k ⌝ }
 {
     if single {
-        return behind_one(room, base, level, n, t, k, stacks);
+        return behind_one(room, base, w, level, t, k, stacks);
     }
     Behind::On
 }
 
-// What waits behind the last step, which was made from that level to the flow level.
-fn store_waiting(held: &mut [u32], base: u32, k: Counts, level: usize, flow: usize)
-    requires { ⌜ (length (now held) ≡ held-words) × (level ≤ 255) × (base < k .count) ⌝ }
-    ensures { λ _. ⌜ now (held .exit) ≡ put-waiting (now (held .entry)) base k level flow ⌝ }
+// Tokens can be given up to the one that is pending.
+fn hold_until(held: &mut [u32], base: u32, w: Pending)
+    requires { ⌜ (length (now held) ≡ held-words) × (base ≤ w .number) ⌝ }
+    ensures { λ _. ⌜ now (held .exit) ≡ put-until (now (held .entry)) base w ⌝ }
 {
-    let named = is_named(&held[0..STACK_WORDS], flow, level, k.count - 1);
-    held[WAITING] = as_word(level);
-    held[UNTIL] = k.count - base - named as u32;
+    held[UNTIL] = w.number - base;
 }
 
-// The state is held, with what waits.
-fn hold(held: &mut [u32], t: State, k: Counts, base: u32, level: usize)
-    requires { ⌜ (length (now held) ≡ held-words) × (t .place .at < 2 ^ 32) × (t .indents .depth < 2 ^ 32) × (t .«flow_level» < 2 ^ 32) × (level ≤ 255) × (base < k .count) ⌝ }
-    ensures { λ _. ⌜ now (held .exit) ≡ put-waiting (put-counts (put-state (now (held .entry)) t) k) base k level (t .«flow_level») ⌝ }
+// The state is held, with what is pending.
+fn hold(held: &mut [u32], t: State, k: Counts, base: u32, w: Pending)
+    requires { ⌜ (length (now held) ≡ held-words) × (t .place .at < 2 ^ 32) × (t .indents .depth < 2 ^ 32) × (t .«flow_level» < 2 ^ 32) × (w .level < 2 ^ 32) × (base ≤ w .number) ⌝ }
+    ensures { λ _. ⌜ now (held .exit) ≡ put-pending (put-counts (put-state (now (held .entry)) t) k) base w ⌝ }
 {
     store_state(held, t);
     store_counts(held, k);
-    store_waiting(held, base, k, level, t.flow_level);
+    held[LEVEL] = as_word(w.level);
+    hold_until(held, base, w);
 }
 
-// All steps from the state that is held; where tokens are given one at a time, up to the first behind which one can be given.
+// What is pending, as it is held: the token in slot 0.
+fn load_pending(held: &[u32], base: u32, n: Counts) -> Pending
+    requires { ⌜ length (now held) ≡ held-words ⌝ }
+    ensures { λ r. ⌜ r ≡ pending-held (now (held .entry)) base n ⌝ }
+{
+    Pending {
+        number: base,
+        level: at_most(255, held[LEVEL]) as usize,
+        put_in: n.put_in,
+    }
+}
+
+// All steps from the state that is held; where tokens are given one at a time, up to the first behind which enough can be given.
 pub fn all_steps(
     limits: Limits,
     text: &[u8],
@@ -381,53 +414,38 @@ pub fn all_steps(
     requires { ⌜ Modest limits × (length (now text) ≤ 1_048_576) × (length (now held) ≡ held-words) ⌝ }
     ensures { λ r. ⌜ Drives limits single (now (text .entry)) (now (held .entry)) (now (words .entry)) (now (bytes .entry)) (now (held .exit)) (now (words .exit)) (now (bytes .exit)) r ⌝ }
 {
-    let s = load_state(limits, held, text);
-    let n = load_counts(held, text);
-    let base = at_most(n.count, held[BASE]);
-    let level = waiting_level(held, base, n.count, s.flow_level);
-    let mut t = s;
-    let mut k = n;
+    let mut t = load_state(limits, held, text);
+    let mut k = load_counts(held, text);
+    let base = at_most(k.count, held[BASE]);
+    let mut w = load_pending(held, base, k);
     loop {
-        let from = t.flow_level;
-        let r = one_step(
-            limits,
-            text,
-            t,
-            k,
-            base,
-            &mut held[0..STACK_WORDS],
-            words,
-            bytes,
-        );
+        let level = t.flow_level;
+        let r = one_step(limits, text, t, k, base, &mut held[0..STACKS], words, bytes);
         match r {
             Stepped::Refused(f) => {
+                hold_until(held, base, w);
                 return Outcome::Stopped(f);
             }
             Stepped::Ends(m) => {
                 return Outcome::Scanned(m);
             }
             Stepped::On { state, counts } => {
-                t = state;
+                t = state.anew();
                 k = counts;
             }
         }
-        let b = behind_step(
-            single,
-            bytes.len(),
-            base,
-            level,
-            n,
-            t,
-            k,
-            &held[0..STACK_WORDS],
-        );
+        let b = behind_step(single, bytes.len(), base, w, level, t, k, &held[0..STACKS]);
         match b {
             Behind::Refused(f) => {
+                hold_until(held, base, w);
                 return Outcome::Stopped(f);
             }
-            Behind::Ready => {
-                hold(held, t, k, base, from);
+            Behind::Ready(v) => {
+                hold(held, t, k, base, v);
                 return Outcome::Ready;
+            }
+            Behind::More(v) => {
+                w = v;
             }
             Behind::On => {}
         }

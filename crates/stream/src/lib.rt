@@ -3,6 +3,7 @@ mod give;
 mod start;
 
 ghost use Prim.Native.Nat.{_*_, _<_, _≤_};
+ghost use mathlib.Core.Bool.{false};
 ghost use mathlib.Core.Path.{_≡_};
 ghost use lib.ListN.{length};
 ghost use Rattle.yaml_lexeme.specs.Record.{record-words};
@@ -11,10 +12,11 @@ ghost use Rattle.yaml_stream.specs.Stream.{least-records};
 ghost use Rattle.stream.specs.Holds.{Promises};
 ghost use Rattle.driver.specs.Held.{Modest, held-words, phase-at, word};
 ghost use Rattle.stream.specs.ScansOn.{ScansOn};
-ghost use Rattle.stream.specs.Words.{close-held};
+ghost use Rattle.stream.specs.Words.{close-held, has-some, last-held, no-token};
 use crate::give::give_first;
 use crate::give::to_front;
-use crate::start::broken;
+use crate::start::held_refusal;
+use crate::start::hold_refusal;
 use crate::start::outside;
 use crate::start::refused;
 use crate::start::start;
@@ -53,35 +55,54 @@ fn close(held: &mut [u32], m: Counts)
     held[UNTIL] = m.count - at_most(m.count, held[BASE]);
 }
 
-// Steps, until a token can be given; and gives it.
+// Whether a token can be given.
+fn has_some(held: &[u32], words: &[u32]) -> bool
+    requires { ⌜ length (now held) ≡ held-words ⌝ }
+    ensures { λ r. ⌜ r ≡ has-some (now (held .entry)) (length (now (words .entry))) ⌝ }
+{
+    if words.len() < LEAST_RECORDS * RECORD_WORDS {
+        return false;
+    }
+    held[SLOT] < held[UNTIL]
+}
+
+// What is held says: a refusal, or the end.
+fn last_answer(held: &[u32], token: &mut [u32]) -> Next
+    requires { ⌜ (length (now held) ≡ held-words) × (length (now token) ≡ record-words) ⌝ }
+    ensures { λ r. ⌜ (r ≡ last-held (now (held .entry))) × (now (token .exit) ≡ no-token) ⌝ }
+{
+    clear_words_from(token, 0);
+    if held[PHASE] == 2 {
+        return Next::Ended;
+    }
+    Next::Refused(held_refusal(held))
+}
+
+// Steps, as many as are made at once; what they come to is held.
 fn scan_on(
     limits: Limits,
     held: &mut [u32],
     text: &[u8],
     words: &mut [u32],
     bytes: &mut [u8],
-    token: &mut [u32],
-) -> Next
-    requires { ⌜ Modest limits × (length (now text) ≤ limits .bytes) × (length (now held) ≡ held-words) × (least-records * record-words ≤ length (now words)) × (length (now token) ≡ record-words) ⌝ }
-    ensures { λ r. ⌜ ScansOn limits (now (text .entry)) (now (held .entry)) (now (words .entry)) (now (bytes .entry)) (now (held .exit)) (now (words .exit)) (now (bytes .exit)) (now (token .exit)) r ⌝ }
+)
+    requires { ⌜ Modest limits × (length (now text) ≤ limits .bytes) × (length (now held) ≡ held-words) × (least-records * record-words ≤ length (now words)) ⌝ }
+    ensures { λ _. ⌜ ScansOn limits (now (text .entry)) (now (held .entry)) (now (words .entry)) (now (bytes .entry)) (now (held .exit)) (now (words .exit)) (now (bytes .exit)) ⌝ }
 {
     to_front(held, words);
     let o = all_steps(limits, text, true, held, words, bytes);
     match o {
-        Outcome::Stopped(f) => refused(held, token, f),
+        Outcome::Stopped(f) => {
+            hold_refusal(held, f);
+        }
         Outcome::Scanned(m) => {
             close(held, m);
-            give_first(held, words, token);
-            Next::Token
         }
-        Outcome::Ready => {
-            give_first(held, words, token);
-            Next::Token
-        }
+        Outcome::Ready => {}
     }
 }
 
-// A call behind the first. 1 and 52 come here only where text or words are others than before.
+// A call where nothing can be given yet, behind the first. 1 and 52 come here only where text or words are others than before.
 fn go_on(
     limits: Limits,
     held: &mut [u32],
@@ -90,24 +111,24 @@ fn go_on(
     bytes: &mut [u8],
     token: &mut [u32],
 ) -> Next
-    requires { ⌜ Modest limits × (1 ≤ limits .entries) × (0 < word (now held) phase-at) × (word (now held) phase-at ≤ 2) × (length (now held) ≡ held-words) × (length (now token) ≡ record-words) ⌝ }
+    requires { ⌜ Modest limits × (1 ≤ limits .entries) × (0 < word (now held) phase-at) × (has-some (now held) (length (now words)) ≡ false) × (length (now held) ≡ held-words) × (length (now token) ≡ record-words) ⌝ }
     ensures { λ r. ⌜ Promises limits (now (text .entry)) (now (held .entry)) (now (words .entry)) (now (bytes .entry)) (now (held .exit)) (now (words .exit)) (now (bytes .exit)) (now (token .exit)) r ⌝ }
 {
+    if held[PHASE] != 1 {
+        return last_answer(held, token);
+    }
     if limits.bytes < text.len() {
         return refused(held, token, outside(1));
     }
     if words.len() < LEAST_RECORDS * RECORD_WORDS {
         return refused(held, token, outside(52));
     }
-    if held[SLOT] < held[UNTIL] {
+    scan_on(limits, held, text, words, bytes);
+    if has_some(held, words) {
         give_first(held, words, token);
         return Next::Token;
     }
-    if held[PHASE] == 1 {
-        return scan_on(limits, held, text, words, bytes, token);
-    }
-    clear_words_from(token, 0);
-    Next::Ended
+    last_answer(held, token)
 }
 
 // Within limits that are at most 01's.
@@ -122,12 +143,12 @@ fn next_within(
     requires { ⌜ Modest limits × (1 ≤ limits .entries) × (length (now held) ≡ held-words) × (length (now token) ≡ record-words) ⌝ }
     ensures { λ r. ⌜ Promises limits (now (text .entry)) (now (held .entry)) (now (words .entry)) (now (bytes .entry)) (now (held .exit)) (now (words .exit)) (now (bytes .exit)) (now (token .exit)) r ⌝ }
 {
-    let phase = held[PHASE];
-    if phase == 0 {
-        return start(limits, held, text, words, token);
+    if has_some(held, words) {
+        give_first(held, words, token);
+        return Next::Token;
     }
-    if 2 < phase {
-        return broken(held, token);
+    if held[PHASE] == 0 {
+        return start(limits, held, text, words, token);
     }
     go_on(limits, held, text, words, bytes, token)
 }

@@ -1,14 +1,13 @@
 // The first call, and refusals.
-ghost use Prim.Native.Nat.{_+_};
 ghost use mathlib.Core.Path.{_≡_};
 ghost use lib.ListN.{length};
 ghost use Rattle.yaml_lexeme.specs.Record.{record-words};
 ghost use Rattle.yaml_text.specs.Mark.{origin};
 ghost use Rattle.yaml_stream.specs.Stream.{fresh};
-ghost use Rattle.driver.specs.Held.{Modest, held-words, mark-at, number-at, word};
+ghost use Rattle.driver.specs.Held.{Modest, held-words};
 ghost use Rattle.stream.specs.declared.Next.the-variants as next;
 ghost use Rattle.stream.specs.Start.{Starts, begun-held};
-ghost use Rattle.stream.specs.Words.{no-token, put-refusal};
+ghost use Rattle.stream.specs.Words.{no-token, put-refusal, refusal-held, refused-held};
 ghost use Rattle.yaml_lexeme.specs.declared.Kind.the-variants as kind;
 ghost use Rattle.yaml_lexeme.specs.Record.{record-of};
 ghost use Rattle.events.specs.Event.{empty-of};
@@ -18,6 +17,8 @@ use driver::held::BASE;
 use driver::held::MARK;
 use driver::held::NUMBER;
 use driver::held::PHASE;
+use driver::held::SLOT;
+use driver::held::UNTIL;
 use driver::held::store_counts;
 use driver::held::store_state;
 use events::Counts;
@@ -49,10 +50,10 @@ pub(crate) fn outside(number: u32) -> Refusal
     }
 }
 
-// A refusal, which stands for ever.
-pub(crate) fn refused(held: &mut [u32], token: &mut [u32], f: Refusal) -> Next
-    requires { ⌜ (length (now held) ≡ held-words) × (length (now token) ≡ record-words) ⌝ }
-    ensures { λ r. ⌜ (r ≡ next.Refused f) × (now (held .exit) ≡ put-refusal (now (held .entry)) f) × (now (token .exit) ≡ no-token) ⌝ }
+// A refusal is held, which stands for ever.
+pub(crate) fn hold_refusal(held: &mut [u32], f: Refusal)
+    requires { ⌜ length (now held) ≡ held-words ⌝ }
+    ensures { λ _. ⌜ now (held .exit) ≡ put-refusal (now (held .entry)) f ⌝ }
 {
     let m = f.mark;
     held[PHASE] = 3;
@@ -60,25 +61,34 @@ pub(crate) fn refused(held: &mut [u32], token: &mut [u32], f: Refusal) -> Next
     held[MARK + 1] = m.line;
     held[MARK + 2] = m.col;
     held[NUMBER] = f.number;
-    clear_words_from(token, 0);
-    Next::Refused(f)
 }
 
 // The refusal that is held.
-pub(crate) fn broken(held: &[u32], token: &mut [u32]) -> Next
-    requires { ⌜ (length (now held) ≡ held-words) × (length (now token) ≡ record-words) ⌝ }
-    ensures { λ r. ⌜ (r ≡ next.Refused (record { number = word (now (held .entry)) number-at; mark = record { index = word (now (held .entry)) mark-at; line = word (now (held .entry)) (mark-at + 1); col = word (now (held .entry)) (mark-at + 2) } })) × (now (token .exit) ≡ no-token) ⌝ }
+pub(crate) fn held_refusal(held: &[u32]) -> Refusal
+    requires { ⌜ length (now held) ≡ held-words ⌝ }
+    ensures { λ r. ⌜ r ≡ refusal-held (now (held .entry)) ⌝ }
 {
-    clear_words_from(token, 0);
     let m = Mark {
         index: held[MARK],
         line: held[MARK + 1],
         col: held[MARK + 2],
     };
-    Next::Refused(Refusal {
+    Refusal {
         number: held[NUMBER],
         mark: m,
-    })
+    }
+}
+
+// A refusal where nothing can be given.
+pub(crate) fn refused(held: &mut [u32], token: &mut [u32], f: Refusal) -> Next
+    requires { ⌜ (length (now held) ≡ held-words) × (length (now token) ≡ record-words) ⌝ }
+    ensures { λ r. ⌜ (r ≡ next.Refused f) × (now (held .exit) ≡ refused-held (now (held .entry)) f) × (now (token .exit) ≡ no-token) ⌝ }
+{
+    hold_refusal(held, f);
+    held[SLOT] = 0;
+    held[UNTIL] = 0;
+    clear_words_from(token, 0);
+    Next::Refused(f)
 }
 
 // StreamStart is given, and the scan begins behind it.

@@ -1,4 +1,5 @@
--- Steps one after the other: up to the end of the text, to a rule that is broken, or to where a test behind a step says so.
+-- Steps one after the other: up to the end of the text, to a rule that is broken, or to where a test behind a step says so. The test also keeps
+-- what is pending: the first token that can't be given yet.
 use Prim.Native.Nat.{_+_, _-_, suc, zero, ℕ}
 use mathlib.Core.Bool.{Bool, false, true}
 use mathlib.Core.List.{List, [], _++_, _∷_}
@@ -17,6 +18,7 @@ use Rattle.events.specs.Event.{event-texts}
 use Rattle.yaml_stream.specs.Stream.{most-waiting, too-many-wait}
 use Rattle.yaml_stream.specs.Lowest.{names}
 use Rattle.yaml_stream.specs.Levels.{level-key}
+use Rattle.stream_laws.specs.declared.Pending.{Pending}
 
 -- how many tokens events put in before others
 unfoldable pub noted : List Event → ℕ
@@ -28,53 +30,75 @@ noted (put-before k ts ∷ es) = length ts + noted es
 abbrev pub counts-after : Counts → List Event → Counts
 counts-after n es = record { count = n .count + puts es; «put_in» = n .«put_in» + noted es; used = n .used + length (event-texts es) }
 
--- what is said behind a step: go on, pause here, or a refusal
+-- what is said behind a step: go on, pause here, each with what is pending then; or a refusal
 pub data Halt : Type 0 where
-  go-on : Halt
-  pause : Halt
+  go-on : Pending → Halt
+  pause : Pending → Halt
   refuse : ℕ → Mark → Halt
 
--- what steps come to
+-- what steps come to, with all that they said
 pub data Driven : Type 0 where
   ends : List Event → Driven
-  -- the events, the flow level from which the last step was made, and the state behind it
-  pauses : List Event → ℕ → State → Driven
-  stops : ℕ → Mark → Driven
+  -- what is pending then, and the state behind the last step
+  pauses : List Event → Pending → State → Driven
+  -- what was pending before the last step
+  stops : List Event → Pending → ℕ → Mark → Driven
   -- out of budget
   spent : Driven
 
 abbrev pub behind-events : List Event → Driven → Driven
 behind-events es (ends fs) = ends (es ++ fs)
-behind-events es (pauses fs level t) = pauses (es ++ fs) level t
-behind-events es (stops k m) = stops k m
+behind-events es (pauses fs w t) = pauses (es ++ fs) w t
+behind-events es (stops fs w k m) = stops (es ++ fs) w k m
 behind-events es spent = spent
 
-abbrev pub after-halt : Halt → List Event → ℕ → State → Counts → (State → Counts → Driven) → Driven
-after-halt go-on es level t m go = behind-events es (go t m)
-after-halt pause es level t m go = pauses es level t
-after-halt (refuse k p) es level t m go = stops k p
+abbrev pub after-halt : Halt → List Event → Pending → State → Counts → (Pending → State → Counts → Driven) → Driven
+after-halt (go-on v) es w t m go = behind-events es (go v t m)
+after-halt (pause v) es w t m go = pauses es v t
+after-halt (refuse k p) es w t m go = stops es w k p
 
-abbrev pub after-news : (State → Counts → Halt) → ℕ → Counts → (State → Counts → Driven) → Read News → Driven
-after-news test level n go (got (goes-on es t)) = after-halt (test t (counts-after n es)) es level t (counts-after n es) go
-after-news test level n go (got (ends-with es)) = ends es
-after-news test level n go (refused k m) = stops k m
+-- the test is told what was pending before the step, and the flow level from which it was made
+abbrev pub Test : Type 0
+Test = Pending → ℕ → State → Counts → Halt
+
+abbrev pub after-news : Test → Pending → ℕ → Counts → (Pending → State → Counts → Driven) → Read News → Driven
+after-news test w level n go (got (goes-on es t)) = after-halt (test w level t (counts-after n es)) es w t (counts-after n es) go
+after-news test w level n go (got (ends-with es)) = ends es
+after-news test w level n go (refused k m) = stops [] w k m
 
 -- so many steps at most
-unfoldable pub driven : Limits → (State → Counts → Halt) → ℕ → State → Counts → Driven
-driven limits test zero s n = spent
-driven limits test (suc k) s n = after-news test (length (s .levels)) n (λ t m. driven limits test k t m) (step limits s)
+unfoldable pub driven : Limits → Test → ℕ → Pending → State → Counts → Driven
+driven limits test zero w s n = spent
+driven limits test (suc k) w s n = after-news test w (length (s .levels)) n (λ v t m. driven limits test k v t m) (step limits s)
 
--- 51: too many wait. base: the number of the first that waits; n: the counts before these steps, m: those behind the last, which was made up to p
-unfoldable pub crowded : ℕ → Counts → Counts → Mark → Halt
-crowded base n m p = pick (ltb most-waiting (m .count - base + (m .«put_in» - n .«put_in»))) (refuse too-many-wait p) go-on
+-- so many slots with tokens that can be given are enough
+abbrev pub slots-ahead : ℕ
+slots-ahead = 32
 
--- where tokens are given one at a time: 5, the texts scanned are more than the bytes lent; a pause, where the first token that waits is no possible key;
--- else 51 or on. level: the flow level whose candidate the first may be; ks: the candidates behind the last step
-unfoldable pub one-by-one : ℕ → ℕ → ℕ → Counts → List Candidate → Mark → Counts → Halt
-one-by-one room base level n ks p m =
-    pick (ltb room (m .used)) (refuse 5 origin) (pick (names base (level-key level ks)) (crowded base n m p) pause)
+-- 51: too many wait behind a step that was made up to p, with the counts m then
+unfoldable pub crowded : Pending → Counts → Mark → Halt
+crowded w m p = pick (ltb most-waiting (m .count - w .number + (m .«put_in» - w .«put_in»))) (refuse too-many-wait p) (go-on w)
+
+-- what is pending where the first token that waited is no possible key any more: the last token, where it is the candidate of the level from which
+-- the step was made, else none. ks: the candidates behind the step; flow: the flow level there
+unfoldable pub then-pending : ℕ → List Candidate → ℕ → Counts → Pending
+then-pending level ks flow m =
+    pick (names (m .count - 1) (level-key level ks))
+    (record { number = m .count - 1; level = level; «put_in» = m .«put_in» })
+    (record { number = m .count; level = flow; «put_in» = m .«put_in» })
+
+-- enough can be given, or on. base: the number of the token in slot 0
+unfoldable pub if-enough : ℕ → Pending → Halt
+if-enough base w = pick (ltb (w .number - base) slots-ahead) (go-on w) (pause w)
+
+-- where tokens are given one at a time: 5, the texts scanned are more than the bytes lent; 51 or on, where the first token that waits is a possible
+-- key still; else more can be given
+unfoldable pub one-by-one : ℕ → ℕ → Pending → ℕ → List Candidate → ℕ → Mark → Counts → Halt
+one-by-one room base w level ks flow p m =
+    pick (ltb room (m .used)) (refuse 5 origin)
+    (pick (names (w .number) (level-key (w .level) ks)) (crowded w m p) (if-enough base (then-pending level ks flow m)))
 
 -- the test behind each step: none, in the one call
-abbrev pub test-of : Bool → ℕ → ℕ → ℕ → Counts → List Candidate → Mark → Counts → Halt
-test-of false room base level n ks p m = go-on
-test-of true room base level n ks p m = one-by-one room base level n ks p m
+abbrev pub test-of : Bool → ℕ → ℕ → Pending → ℕ → List Candidate → ℕ → Mark → Counts → Halt
+test-of false room base w level ks flow p m = go-on w
+test-of true room base w level ks flow p m = one-by-one room base w level ks flow p m

@@ -1,5 +1,5 @@
 -- Where the first waiting token is a possible key before a step and not behind it, the only candidate that is left is the token that came last.
-use Prim.Native.Nat.{_+_, suc, ℕ}
+use Prim.Native.Nat.{_+_, _≤_, suc, ℕ}
 use mathlib.Core.Bool.{Bool, _||_, false, true}
 use mathlib.Core.List.{List, [], _++_, _∷_, append-assoc}
 use mathlib.Core.Logic.{_⊎_, inl, inr}
@@ -12,14 +12,14 @@ use Rattle.yaml_text.specs.declared.Mark.{Mark}
 use Rattle.yaml_text.specs.Mark.{Place}
 use Rattle.yaml_text.specs.Test.{by-pick, by-test, true-false}
 use Rattle.yaml_text.specs.All.{All}
-use Rattle.yaml_lexeme.specs.Token.{FlowMappingStart, Token}
+use Rattle.yaml_lexeme.specs.Token.{FlowMappingStart, StreamEnd, Token, empty-token}
 use Rattle.yaml_scan.specs.declared.Candidate.{Candidate}
 use Rattle.yaml_scan.specs.declared.Candidate.the-variants.{Absent, Possible}
 use Rattle.yaml_scan.specs.declared.Level.{Level}
 use Rattle.yaml_scan.specs.declared.Limits.{Limits}
 use Rattle.yaml_scan.specs.Indent.{Indents}
 use Rattle.yaml_scan.specs.Keys.{set-key, top-key}
-use Rattle.yaml_scan.specs.State.{Event, News, State, block-ends, empty-if, ends-with, goes-on, mark-of, preceded, put, put-before, puts, save-key}
+use Rattle.yaml_scan.specs.State.{Event, News, State, block-ends, empty-if, ends-with, goes-on, mark-of, preceded, put, put-before, puts, save-key, unroll-to}
 use Rattle.yaml_scan.specs.Document.{all-ends}
 use Rattle.yaml_scan.specs.Scan.{step, unrolled}
 use Rattle.yaml_scan.specs.Candidates.{Fall, fall-drop, fall-less}
@@ -198,7 +198,7 @@ move-last {t} n s (uses {pair = p} {n = k} {m = m} {r = r} e b c) = (_, absent-l
 
 abbrev pub LastOf : ℕ → State → News → Type 0
 LastOf n s (goes-on es t) = (k : ℕ) × Last n k s es (t .keys) × (t .count ≡ suc k)
-LastOf n s (ends-with es) = Unit {0}
+LastOf n s (ends-with es) = 1 ≤ puts es
 
 last-after : {n k : ℕ} {s t : State} {es : List Event} {ks : List Candidate} (j : ℕ) (m : Mark) → Gapped s t → Last n k (unrolled-state t) es ks → j ≡ unrolled t .ended
     → Last n k s (block-ends j m ++ es) ks
@@ -224,4 +224,7 @@ step-last n limits s = step-by limits s by-news
         let l = move-last n (unrolled-state t) (m .2) in
         let f = ap (λ (fs : List Event). puts fs) (l .1 .is) in
         (l .0, last-after (unrolled t .ended) (mark-of t) g (l .1) refl, omega (arith, m .3, l .1 .numbered, puts-last (l .1 .front) (l .1 .last)))
-    by-news t g (ends-with es) m k = tt
+    by-news t g (ends-with es) m k =
+        let e = empty-token StreamEnd (m .0) in
+        let f = ap (λ (fs : List Event). puts fs) (m .2) in
+        omega (arith, puts-append (block-ends (unrolled t .ended) (mark-of t)) es, puts-last (block-ends (unroll-to 0 (unrolled-state t) .ended) (m .0)) e)

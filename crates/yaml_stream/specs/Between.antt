@@ -8,7 +8,7 @@ use mathlib.Core.Path.{_∙_, _≡_, ap, refl, sym}
 use native.Mathlib.Nat.{le-refl}
 use native.Mathlib.Omega.{arith}
 use lib.Dec.{ltb}
-use lib.ListN.{length, length-append}
+use lib.ListN.{drop, length, length-append}
 use borrow.Author.Tests.{ltb-false, ltb-true, ne-eqb}
 use Rattle.yaml_text.specs.Mark.{origin}
 use Rattle.yaml_text.specs.Refusal.{Read, got, refused}
@@ -27,7 +27,7 @@ use Rattle.yaml_stream.specs.Stream.{Called, Stream, after-news, begun, 
 use Rattle.yaml_stream.specs.Kept.{From}
 use Rattle.yaml_stream.specs.Waits.{waits-append}
 use Rattle.yaml_stream.specs.Alone.{Holds, LastOf, holds-none, holds-possible, step-last}
-use Rattle.yaml_stream.specs.Waiting.{Held, Keeps, Reaches, call-reaches, fresh-keeps, here as at-once, not-false, reaches-keeps, stepped-keeps}
+use Rattle.yaml_stream.specs.Waiting.{Held, Keeps, Reaches, call-reaches, here as at-once, not-false, reaches-keeps, stepped-keeps}
 use Rattle.yaml_stream.specs.Answers.{Comes, here, then-call}
 use Rattle.yaml_stream.specs.Levels.{OnLevel, fall-not, new-on, on-absents, on-none, step-on}
 use Rattle.yaml_stream.specs.Seeks.{found-ready}
@@ -144,11 +144,11 @@ no-level {s = s} {n = n} l h = on-none n l (s .keys) (fall-not n (s .count) (s .
 
 -- a token is given
 
-bare-given : (t : Token) (xs : List Slot) → (slot t [] ∷ xs ≡ []) ⊎ Bare (slot t [] ∷ xs) → (xs ≡ []) ⊎ Bare xs
-bare-given t xs (inl e) = let z : _≡_ {A = ℕ} 0 1 = cc in absurd (omega arith)
-bare-given t xs (inr b) = by-others (b .others) (b .is)
+bare-rest : (x : Slot) (xs : List Slot) → (x ∷ xs ≡ []) ⊎ Bare (x ∷ xs) → (xs ≡ []) ⊎ Bare xs
+bare-rest x xs (inl e) = let z : _≡_ {A = ℕ} 0 1 = cc in absurd (omega arith)
+bare-rest x xs (inr b) = by-others (b .others) (b .is)
   where
-    by-others : (ys : List Slot) → slot t [] ∷ xs ≡ ys ++ (slot (b .last) [] ∷ []) → (xs ≡ []) ⊎ Bare xs
+    by-others : (ys : List Slot) → x ∷ xs ≡ ys ++ (slot (b .last) [] ∷ []) → (xs ≡ []) ⊎ Bare xs
     by-others [] e = let g : xs ≡ [] = cc in inl g
     by-others (y ∷ ys) e = let g : xs ≡ ys ++ (slot (b .last) [] ∷ []) = cc in inr (record { others = ys; last = b .last; is = g })
 
@@ -168,10 +168,19 @@ bare-part t b bs xs (inr a) = by-others (a .others) (a .is)
 
 -- its slot's own, or one that was put in before it: the level stays
 pub between-given : {l : ℕ} {s : State} {n : ℕ} {t : Token} {xs : List Slot} → Between l s n (slot t [] ∷ xs) → Between l s (suc n) xs
-between-given {t = t} {xs = xs} h = record { level = h .level; others-not = h .others-not; bare = bare-given t xs (h .bare) }
+between-given {t = t} {xs = xs} h = record { level = h .level; others-not = h .others-not; bare = bare-rest (slot t []) xs (h .bare) }
 
 pub between-part : {l : ℕ} {s : State} {n : ℕ} {t b : Token} {bs : List Token} {xs : List Slot} → Between l s n (slot t (b ∷ bs) ∷ xs) → Between l s n (slot t bs ∷ xs)
 between-part {t = t} {b = b} {bs = bs} {xs = xs} h = record { level = h .level; others-not = h .others-not; bare = bare-part t b bs xs (h .bare) }
+
+-- the first slots, whatever goes in before their tokens
+pub between-drop : {l : ℕ} {s : State} {n : ℕ} (k i : ℕ) {xs : List Slot} → Between l s n xs → Between l s i (drop k xs)
+between-drop {n = n} k i {xs = xs} h = record { level = h .level; others-not = h .others-not; bare = bare-drop k xs (h .bare) }
+  where
+    bare-drop : (j : ℕ) (ys : List Slot) → (ys ≡ []) ⊎ Bare ys → (drop j ys ≡ []) ⊎ Bare (drop j ys)
+    bare-drop zero ys b = b
+    bare-drop (suc j) [] b = inl refl
+    bare-drop (suc j) (y ∷ ys) b = bare-drop j ys (bare-rest y ys b)
 
 first-between : (s : State) (n : ℕ) (bs : List Token) (t : Token) (xs : List Slot) (used : ℕ) → BetweenIn (scanning s n (slot t bs ∷ xs) used) → BetweenIn (first-of (λ k ys. scanning s k ys used) n bs t xs .stream)
 unfolding first-of
@@ -198,7 +207,7 @@ give-between (broken k m) h = tt
 abbrev MidIn : Stream → Type 0
 MidIn x = (ready x ≡ false) ⊎ BetweenIn x
 
-still-first : (s : State) (n : ℕ) (xs : List Slot) (used : ℕ) → possible n (s .keys) ≡ true → ready (scanning s n xs used) ≡ false
+pub still-first : (s : State) (n : ℕ) (xs : List Slot) (used : ℕ) → possible n (s .keys) ≡ true → ready (scanning s n xs used) ≡ false
 unfolding ready
 still-first s n [] used p = refl
 still-first s n (x ∷ xs) used p = rw p

@@ -43,6 +43,13 @@ notes-append n [] fs h k = k
 notes-append n (put t ∷ es) fs h k = notes-append n es fs h k
 notes-append n (put-before j ts ∷ es) fs h k = (h .0, notes-append n es fs (h .1) k)
 
+-- so from a lower number on too
+pub notes-less : (n k : ℕ) (es : List Event) → n ≤ k → NotesFrom k es → NotesFrom n es
+unfolding NotesFrom
+notes-less n k [] b h = tt
+notes-less n k (put t ∷ es) b h = notes-less n k es b h
+notes-less n k (put-before j ts ∷ es) b h = (omega (arith, h .0), notes-less n k es b (h .1))
+
 only-notes : (n : ℕ) (es : List Event) → OnlyPuts es → NotesFrom n es
 unfolding NotesFrom OnlyPuts
 only-notes n [] h = tt

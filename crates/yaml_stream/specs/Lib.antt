@@ -21,6 +21,7 @@ pub mod Notes
 pub mod Noted
 pub mod Seeks
 pub mod Between
+pub mod Ahead
 pub mod Opened
 pub mod Spare
 pub mod Tight

@@ -52,7 +52,7 @@ NotedIn (broken k m) = Unit {0}
 
 -- a step
 
-sound-count : {gs : List Given} {s : State} → Sound gs s → s .count ≡ length gs
+pub sound-count : {gs : List Given} {s : State} → Sound gs s → s .count ≡ length gs
 sound-count (ready r) = r .counted
 sound-count (late e o r) = r .counted
 

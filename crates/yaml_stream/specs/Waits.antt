@@ -2,7 +2,7 @@
 use Prim.Native.Nat.{_+_, _-_, _≤_, suc, zero, ℕ}
 use mathlib.Core.Bool.{Bool, _||_, false, true}
 use mathlib.Core.List.{List, [], _++_, _∷_, map, map-append}
-use mathlib.Core.Path.{_≡_, ap, refl}
+use mathlib.Core.Path.{_∙_, _≡_, ap, refl}
 use native.Mathlib.Omega.{arith}
 use lib.Dec.{eqb}
 use lib.ListN.{length, length-append}
@@ -15,7 +15,7 @@ use Rattle.yaml_scan.specs.State.{Event, put, put-before, puts}
 use Rattle.yaml_scan.specs.Slots.{Slot, flat, note, slot, slots}
 use Rattle.yaml_scan.specs.SlotLaws.{flat-more, slots-append, slots-length, total}
 use Rattle.yaml_stream.specs.Stream.{counted-from, possible, waits}
-use Rattle.yaml_stream.specs.Kept.{From, NotesFrom}
+use Rattle.yaml_stream.specs.Kept.{From, NotesFrom, notes-less}
 
 pub waits-append : (n : ℕ) (xs : List Slot) (es fs : List Event) → waits n xs (es ++ fs) ≡ waits n (waits n xs es) fs
 unfolding waits
@@ -46,6 +46,14 @@ waits-past n x xs (put t ∷ es) h = waits-past n x (xs ++ (slot t [] ∷ [])) e
 waits-past n x xs (put-before k ts ∷ es) h =
     let e : k - n ≡ suc (k - suc n) = omega (arith, h .0) in
     rw e (waits-past n x (note (k - suc n) ts xs) es (h .1))
+
+-- and so do several
+pub waits-behind : (n : ℕ) (xs ys : List Slot) (es : List Event) → NotesFrom (n + length xs) es → waits n (xs ++ ys) es ≡ xs ++ waits (n + length xs) ys es
+waits-behind n [] ys es h = let e : n + 0 ≡ n = omega arith in rw e
+waits-behind n (x ∷ xs) ys es h =
+    let e : n + suc (length xs) ≡ suc n + length xs = omega arith in
+    waits-past n x (xs ++ ys) es (notes-less (suc n) (n + suc (length xs)) es (omega arith) h)
+    ∙ rw e (ap (λ (zs : List Slot). x ∷ zs) (waits-behind (suc n) xs ys es (rw e at h)))
 
 -- how many tokens wait
 

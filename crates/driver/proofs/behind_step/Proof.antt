@@ -12,10 +12,16 @@ behind-one-requires : tie.Need-behind-one-requires
 behind-one-requires c κs = search needs
 
 returns : tie.Need-returns
-returns c = c .behind-one .ensures ∙ test-one (c .before .before .before .args .room) (c .before .before .before .args .base) (c .before .before .before .args .level) (c .before .before .before .args .n) (frame-keys (now (c .before .before .before .args .stacks)) (suc (c .before .before .before .args .t .«flow_level»))) (c .before .before .before .args .t .place .mark) (c .before .before .before .args .k) (c .before .if1 .taken)
+returns c =
+    let a = c .before .before .before .args in
+    let flow = a .t .«flow_level» in
+    c .behind-one .ensures ∙ test-one (a .room) (a .base) (a .w) (a .level) (frame-keys (now (a .stacks)) (suc flow)) flow (a .t .place .mark) (a .k) (c .before .if1 .taken)
 
 returns-2 : tie.Need-returns-2
-returns-2 c = test-none (c .before .before .args .room) (c .before .before .args .base) (c .before .before .args .level) (c .before .before .args .n) (frame-keys (now (c .before .before .args .stacks)) (suc (c .before .before .args .t .«flow_level»))) (c .before .before .args .t .place .mark) (c .before .before .args .k) (c .if1 .left)
+returns-2 c =
+    let a = c .before .before .args in
+    let flow = a .t .«flow_level» in
+    test-none (a .room) (a .base) (a .w) (a .level) (frame-keys (now (a .stacks)) (suc flow)) flow (a .t .place .mark) (a .k) (c .if1 .left)
 
 pub behind-step-spec : {M : Type 1} → statement M
 behind-step-spec = tie.close (tie.spec behind-one-requires returns returns-2)

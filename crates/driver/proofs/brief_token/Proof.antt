@@ -46,11 +46,14 @@ sub-put-brief c = omega (arith, c .before .before .before .before .before .befor
 put-brief-requires : tie.Need-put-brief-requires
 put-brief-requires c κs = search needs
 
+anew-requires : tie.Need-anew-requires
+anew-requires c κs = search needs
+
 brief-event-requires : tie.Need-brief-event-requires
 brief-event-requires c κs = search needs
 
 counting-requires : tie.Need-counting-requires
-counting-requires c κs = rw (c .brief-event .ensures) (counts (c .before .before .before .before .before .before .before .before .before .before .before .before .before) (ap brief-fetched (c .before .before .before .before .before .before .before .r2 .given .1)))
+counting-requires c κs = rw (c .brief-event .ensures) (counts (c .before .before .before .before .before .before .before .before .before .before .before .before .before .before) (ap brief-fetched (c .before .before .before .before .before .before .before .before .r2 .given .1)))
 
 enum-known-r-3 : tie.Need-enum-known-r-3
 enum-known-r-3 c = search needs
@@ -61,11 +64,14 @@ sub-put-entry c = omega (arith, c .before .before .before .before .before .befor
 put-entry-requires : tie.Need-put-entry-requires
 put-entry-requires c κs = search needs
 
+anew-requires-2 : tie.Need-anew-requires-2
+anew-requires-2 c κs = search needs
+
 brief-event-requires-2 : tie.Need-brief-event-requires-2
 brief-event-requires-2 c κs = search needs
 
 counting-requires-2 : tie.Need-counting-requires-2
-counting-requires-2 c κs = rw (c .brief-event2 .ensures) (counts (c .before .before .before .before .before .before .before .before .before .before .before .before .before) (ap brief-fetched (c .before .before .before .before .before .before .before .r3 .given .1)))
+counting-requires-2 c κs = rw (c .brief-event2 .ensures) (counts (c .before .before .before .before .before .before .before .before .before .before .before .before .before .before) (ap brief-fetched (c .before .before .before .before .before .before .before .before .r3 .given .1)))
 
 same-length : tie.Need-same-length
 same-length c = search needs
@@ -80,36 +86,38 @@ returns c =
     taken-refused (given f) (a .ended) (start f .pre .2) (ended f) (a .c) (now (a .words)) (start f .pre .3) (rw (c .before .r .given .1) at (f .fetch-brief .ensures))
 
 same-length-3 : tie.Need-same-length-3
-same-length-3 c = search needs
+same-length-3 c = c .before .before .before .before .before .before .before .before .before .before .before .before .before .before .before .fetch-brief .kept .1 .1 .1 .1 .1 .0
 
 same-length-4 : tie.Need-same-length-4
 same-length-4 c = search needs
 
 same-length-5 : tie.Need-same-length-5
-same-length-5 c = search needs
+same-length-5 c = c .before .before .before .before .before .before .before .before .before .before .before .before .before .before .before .fetch-brief .kept .1 .1 .1 .1 .1 .1 .0
 
 returns-2 : tie.Need-returns-2
 returns-2 c =
-    let f = c .before .before .before .before .before .before .before .before .before .before .before .before .before .before in
+    let f = c .before .before .before .before .before .before .before .before .before .before .before .before .before .before .before in
     let a = start f .args in
-    taken-goes (given f) (a .ended) (start f .pre .2) (ended f) (a .c) (now (a .words)) (f .fetch-brief .ensures) (c .before .before .before .before .put-brief .ensures)
-    (rw (c .before .brief-event .ensures) at (c .counting .ensures)) (ap brief-fetched (c .before .before .before .before .before .before .before .before .r2 .given .1)) (f .fetch-brief .kept .1 .1 .1 .1 .1 .0)
+    rw (c .before .before .anew .ensures)
+    (taken-goes (given f) (a .ended) (start f .pre .2) (ended f) (a .c) (now (a .words)) (f .fetch-brief .ensures) (c .before .before .before .before .before .put-brief .ensures)
+    (rw (c .before .brief-event .ensures) at (c .counting .ensures)) (ap brief-fetched (c .before .before .before .before .before .before .before .before .before .r2 .given .1)) (f .fetch-brief .kept .1 .1 .1 .1 .1 .0))
 
 same-length-6 : tie.Need-same-length-6
-same-length-6 c = search needs
+same-length-6 c = c .before .before .before .before .before .before .before .before .before .before .before .before .before .before .before .fetch-brief .kept .1 .1 .1 .1 .1 .0
 
 same-length-7 : tie.Need-same-length-7
 same-length-7 c = search needs
 
 same-length-8 : tie.Need-same-length-8
-same-length-8 c = search needs
+same-length-8 c = c .before .before .before .before .before .before .before .before .before .before .before .before .before .before .before .fetch-brief .kept .1 .1 .1 .1 .1 .1 .0
 
 returns-3 : tie.Need-returns-3
 returns-3 c =
-    let f = c .before .before .before .before .before .before .before .before .before .before .before .before .before .before in
+    let f = c .before .before .before .before .before .before .before .before .before .before .before .before .before .before .before in
     let a = start f .args in
-    taken-goes (given f) (a .ended) (start f .pre .2) (ended f) (a .c) (now (a .words)) (f .fetch-brief .ensures) (c .before .before .before .before .put-entry .ensures)
-    (rw (c .before .brief-event2 .ensures) at (c .counting2 .ensures)) (ap brief-fetched (c .before .before .before .before .before .before .before .before .r3 .given .1)) (f .fetch-brief .kept .1 .1 .1 .1 .1 .0)
+    rw (c .before .before .anew2 .ensures)
+    (taken-goes (given f) (a .ended) (start f .pre .2) (ended f) (a .c) (now (a .words)) (f .fetch-brief .ensures) (c .before .before .before .before .before .put-entry .ensures)
+    (rw (c .before .brief-event2 .ensures) at (c .counting2 .ensures)) (ap brief-fetched (c .before .before .before .before .before .before .before .before .before .r3 .given .1)) (f .fetch-brief .kept .1 .1 .1 .1 .1 .0))
 
 pub brief-token-spec : {M : Type 1} → statement M
 brief-token-spec =
@@ -121,11 +129,13 @@ brief-token-spec =
     enum-known-r-2
     sub-put-brief
     put-brief-requires
+    anew-requires
     brief-event-requires
     counting-requires
     enum-known-r-3
     sub-put-entry
     put-entry-requires
+    anew-requires-2
     brief-event-requires-2
     counting-requires-2
     same-length

@@ -14,10 +14,10 @@ add-if1 : tie.Need-add-if1
 add-if1 c = search needs
 
 returns : tie.Need-returns
-returns c = crowded-full _ _ _ _ (c .if1 .taken)
+returns c = crowded-full _ _ _ (c .if1 .taken)
 
 returns-2 : tie.Need-returns-2
-returns-2 c = crowded-on _ _ _ _ (c .if1 .left)
+returns-2 c = crowded-on _ _ _ (c .if1 .left)
 
 pub too-many-spec : {M : Type 1} → statement M
 too-many-spec = tie.close (tie.spec sub-if1 sub-if1-2 add-if1 returns returns-2)
