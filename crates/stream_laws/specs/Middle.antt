@@ -18,7 +18,7 @@ use Rattle.yaml_text.specs.All.{all-got}
 use Rattle.yaml_scan.specs.State.{Event, State, ends-with, goes-on, put, put-before, puts}
 use Rattle.yaml_scan.specs.Scan.{step}
 use Rattle.yaml_scan.specs.Slots.{Slot, flat, slots}
-use Rattle.yaml_scan.specs.SlotLaws.{Holds, flat-append, total}
+use Rattle.yaml_scan.specs.SlotLaws.{Holds, flat-append, slots-total, total}
 use Rattle.yaml_scan.specs.Candidates.{Given, Placed, Sound, given}
 use Rattle.yaml_scan.specs.Runs.{Goes, step-news}
 use Rattle.yaml_stream.specs.Stream.{Stream, broken, call, closing, counted-from, scanning, waits}
@@ -30,7 +30,7 @@ use Rattle.yaml_stream.specs.Answers.{refused-again}
 use Rattle.yaml_stream.specs.Alone.{LastOf, step-last}
 use Rattle.yaml_stream.specs.Waiting.{Held, few-before, fresh-keeps, reaches-keeps}
 use Rattle.yaml_stream.specs.Levels.{OnLevel, fall-not, on-none, step-on}
-use Rattle.yaml_stream.specs.Notes.{AllNoted, counted-given, counted-notes, counted-placed, counted-total, flat-befores, holds-after, noted-after, step-notes, total-after}
+use Rattle.yaml_stream.specs.Notes.{AllNoted, counted-given, counted-notes, counted-placed, counted-total, flat-befores, holds-after, noted-after, step-notes}
 use Rattle.yaml_stream.specs.Notes as known
 use Rattle.yaml_stream.specs.Noted.{sound-count}
 use Rattle.yaml_stream.specs.Between.{Lone, to-scan}
@@ -174,7 +174,7 @@ module _ {q : Setting} {base : ℕ} {x : Stream} {all : List Given} {w : Pending
       let zs = waits n ys es in
       let a : length (flat (free ++ zs)) ≡ length (flat free) + length (flat zs) = ap length (flat-append free zs) ∙ length-append (flat free) (flat zs) in
       let b : length (flat xs) ≡ length (flat free) + length (flat ys) = ap length (flat-append free ys) ∙ length-append (flat free) (flat ys) in
-      let c = total-after (map (counted-from base) es) (drop base all) xs (h .holds-last) (counted-placed base es all least (from-base es f) p) in
+      let c = slots-total (drop base all) xs (map (counted-from base) es) (h .holds-last) (counted-placed base es all least (from-base es f) p) in
       let d : length (flat (waits base xs es)) ≡ length (flat (free ++ zs)) = ap (λ (ws : List Slot). length (flat ws)) (in-parts es f) in
       omega (arith, counted-total base es)
 

@@ -93,7 +93,8 @@ flat-noted (g ∷ gs) (x ∷ xs) (suc n) m ts h f =
     let k = flat-noted gs xs n m ts (h .2) (omega (arith, f .0), f .1) in
     omega arith
 
-slots-total : (gs : List Given) (xs : List Slot) (es : List Event) → Holds gs xs → Placed gs es → length (flat (slots xs es)) ≡ length (flat xs) + total es
+-- so many tokens more
+pub slots-total : (gs : List Given) (xs : List Slot) (es : List Event) → Holds gs xs → Placed gs es → length (flat (slots xs es)) ≡ length (flat xs) + total es
 unfolding slots total Placed
 slots-total gs xs [] h p = omega arith
 slots-total gs xs (put t ∷ es) h p =

@@ -20,14 +20,13 @@ use Rattle.yaml_lexeme.specs.Record.{record-words}
 use Rattle.yaml_scan.specs.declared.Candidate.{Candidate}
 use Rattle.yaml_scan.specs.declared.Candidate.the-variants.{Absent, Possible}
 use Rattle.yaml_scan.specs.declared.Limits.{Limits}
-use Rattle.yaml_scan.specs.State.{Event, News, State, ends-with, goes-on, put}
+use Rattle.yaml_scan.specs.State.{Event, News, State, ends-with, goes-on}
 use Rattle.yaml_scan.specs.Scan.{begin, step}
-use Rattle.yaml_scan.specs.Slots.{Slot, slot, slots}
+use Rattle.yaml_scan.specs.Slots.{Slot, slot}
 use Rattle.yaml_stream.specs.Stream.{Called, Stream, after-news, begun, behind, broken, budget, call, closing, crowded, first-of, fresh, give, least-records, possible, ready, scanning, sought, stepped, token, waits}
 use Rattle.yaml_stream.specs.Kept.{From}
-use Rattle.yaml_stream.specs.Waits.{waits-append}
-use Rattle.yaml_stream.specs.Alone.{Holds, LastOf, holds-none, holds-possible, step-last}
-use Rattle.yaml_stream.specs.Waiting.{Held, Keeps, Reaches, call-reaches, here as at-once, not-false, reaches-keeps, stepped-keeps}
+use Rattle.yaml_stream.specs.Alone.{LastOf, step-last}
+use Rattle.yaml_stream.specs.Waiting.{Held, Keeps, Reaches, call-reaches, here as at-once, holds-before, not-false, reaches-keeps, stepped-keeps, waits-then}
 use Rattle.yaml_stream.specs.Answers.{Comes, here, then-call}
 use Rattle.yaml_stream.specs.Levels.{OnLevel, fall-not, new-on, on-absents, on-none, step-on}
 use Rattle.yaml_stream.specs.Seeks.{found-ready}
@@ -91,18 +90,6 @@ from-not i k [] h b = refl
 from-not i k (Absent ∷ ks) h b = from-not i k ks h b
 from-not i k (Possible required j m ∷ ks) h b = rw (ne-eqb i j (λ e. omega (arith, h .0)), from-not i k ks (h .1) b)
 
--- the first waiting token is a candidate, or none waits
-first-holds : {limits : Limits} {s : State} {n : ℕ} {xs : List Slot} (used : ℕ) → Held limits s n xs → ready (scanning s n xs used) ≡ false → Holds n (s .keys)
-unfolding ready
-first-holds {s = s} {n = n} {xs = []} used h r =
-    let e : s .count ≡ n = omega (arith, h .counted) in
-    holds-none n (s .keys) (h .from) (rw e at (h .falls))
-first-holds {s = s} {n = n} {xs = y ∷ ys} used h r = holds-possible n (s .count) (s .keys) (h .from) (h .falls) (not-false (possible n (s .keys)) r)
-
-waits-last : (n : ℕ) (xs : List Slot) (es front : List Event) (last : Token) → es ≡ front ++ (put last ∷ []) → waits n xs es ≡ waits n xs front ++ (slot last [] ∷ [])
-unfolding waits slots
-waits-last n xs es front last e = ap (λ (fs : List Event). waits n xs fs) e ∙ waits-append n xs front (put last ∷ [])
-
 -- behind it the first waiting token is still a possible key, or the call pauses; the level is that from which the step was made
 abbrev pub Pauses : State → ℕ → List Slot → News → Type 0
 Pauses s n xs (goes-on es t) = (possible n (t .keys) ≡ true) ⊎ Between (length (s .levels)) t n (waits n xs es)
@@ -110,7 +97,7 @@ Pauses s n xs (ends-with es) = Unit {0}
 
 pub step-pauses : (limits : Limits) (s : State) (n : ℕ) (xs : List Slot) (used : ℕ) → Held limits s n xs → ready (scanning s n xs used) ≡ false → (es : List Event) (t : State)
     → step limits s ≡ got (goes-on es t) → Pauses s n xs (goes-on es t)
-step-pauses limits s n xs used h r es t e = by-alone (m .1 .alone (first-holds used h r))
+step-pauses limits s n xs used h r es t e = by-alone (m .1 .alone (holds-before used h r))
   where
     m : LastOf n s (goes-on es t)
     m = all-got (step-last n limits s) e
@@ -126,7 +113,7 @@ step-pauses limits s n xs used h r es t e = by-alone (m .1 .alone (first-holds u
     by-alone (inr f) = inr (record {
       level = later f;
       others-not = λ i b. from-not i (m .0) (t .keys) f (omega (arith, m .2));
-      bare = inr (record { others = waits n xs (m .1 .front); last = m .1 .last; is = waits-last n xs es (m .1 .front) (m .1 .last) (m .1 .is) });
+      bare = inr (record { others = waits n xs (m .1 .front); last = m .1 .last; is = waits-then n xs es (m .1 .front) (m .1 .last) (m .1 .is) });
     })
 
 -- within a call the candidate that the first waiting token may be stays on its level: where nothing waited before the step, that from which it is made

@@ -29,6 +29,7 @@ use Rattle.yaml_stream.specs.Stream.{Called, Heard, Next, Stream, after-
 use Rattle.yaml_stream.specs.Kept.{From, step-keeps}
 use Rattle.yaml_stream.specs.Tale.{Close, at-end, at-rule, built, in-step, tale, tale-notes, text-tale, told, told-of}
 use Rattle.yaml_stream.specs.Sizes.{brings-append, brings-texts, text-total, total-append}
+use Rattle.yaml_stream.specs.Seeks.{found-ready}
 use Rattle.yaml_stream.specs.Waits.{from-next, waits-append, waits-length, waits-past, waits-slots, waits-total}
 
 -- the refusals of the stream's own, each with its reason; list: what the rules have built
@@ -107,44 +108,6 @@ module _ (limits : Limits) (words room : ℕ) (list : List Token) where
       (λ e. rw (e, sought) h)
       (λ e. rw (e, sought) (sought-owes us c k (stepped limits room x) (stepped-owes us c x h)))
 
--- the budget is enough: each step takes a character, or is the last
-
-abbrev Within : ℕ → Stream → Type 0
-Within k (scanning s n xs used) = left (s .place) < k
-Within k (closing xs) = Unit {0}
-Within k (broken j m) = Unit {0}
-
-behind-within : (k room : ℕ) (s : State) (n : ℕ) (xs : List Slot) (used : ℕ) → left (s .place) < k → Within k (behind room s n xs used)
-unfolding behind
-behind-within k room s n xs used h =
-    by-test (ltb room used)
-    (λ e. rw (e, behind) tt)
-    (λ e. by-test (crowded s n xs) (λ f. rw (e, f, behind) tt) (λ f. rw (e, f, behind) h))
-
-stepped-within : (limits : Limits) (room k : ℕ) (x : Stream) → Within (suc k) x → Within k (stepped limits room x)
-unfolding stepped
-stepped-within limits room k (scanning s n xs used) h =
-    on-news (λ r. Within k (after-news room n xs used r)) (step-news [] limits s)
-    (λ es t i. behind-within k room t n (waits n xs es) _ (omega (arith, i .takes))) (λ _ _. tt) (λ _ _. tt)
-stepped-within limits room k (closing xs) h = tt
-stepped-within limits room k (broken j m) h = tt
-
-sought-ready : (limits : Limits) (room k : ℕ) (x : Stream) → Within k x → ready (sought limits room k x) ≡ true
-unfolding sought ready
-sought-ready limits room zero (scanning s n xs used) h = absurd (not-suc-le-zero h)
-sought-ready limits room zero (closing xs) h = refl
-sought-ready limits room zero (broken j m) h = refl
-sought-ready limits room (suc k) x h =
-    by-test (ready x)
-    (λ e. rw (e, sought) e)
-    (λ e. rw (e, sought) (sought-ready limits room k (stepped limits room x) (stepped-within limits room k x h)))
-
-within-budget : (x : Stream) → Within (budget x) x
-unfolding budget
-within-budget (scanning s n xs used) = le-refl _
-within-budget (closing xs) = tt
-within-budget (broken k m) = tt
-
 -- a call
 
 not-possible : (b : Bool) → not b ≡ true → b ≡ false
@@ -222,7 +185,7 @@ module _ (limits : Limits) (words room : ℕ) (list : List Token) where
   pub call-answers : (us : List Token) (c : Close) (x : Stream) → Owes limits words room list us c x → Answers us c (call limits room x)
   unfolding call
   call-answers us c x h =
-      give-answers us c (sought limits room (budget x) x) (sought-ready limits room (budget x) x (within-budget x)) (sought-owes limits words room list us c (budget x) x h)
+      give-answers us c (sought limits room (budget x) x) (found-ready limits room (budget x) x (le-refl _)) (sought-owes limits words room list us c (budget x) x h)
 
 -- calls, one behind another
 

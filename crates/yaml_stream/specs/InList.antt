@@ -1,12 +1,14 @@
 -- A list that opens on its key's line is no candidate: its entries are given as they come, at most 4 tokens wait, and 51 is not met, however long it is.
-use Prim.Native.Nat.{_≤_, suc, ℕ}
+use Prim.Native.Nat.{_+_, _≤_, ℕ}
 use mathlib.Core.Bool.{Bool, _&&_, false, not, true}
 use mathlib.Core.List.{List, [], _++_, _∷_}
 use mathlib.Core.Logic.{_⊎_, inl, inr}
-use mathlib.Core.Path.{_≡_, ap, refl}
+use mathlib.Core.Path.{_∙_, _≡_, ap, refl}
+use native.Mathlib.Nat.{le-refl}
 use native.Mathlib.Omega.{arith}
 use lib.Dec.{ltb}
 use lib.ListN.{drop, length}
+use lib.Seq.{drop-length}
 use borrow.Author.Tests.{le-ltb}
 use Rattle.yaml_text.specs.declared.Mark.{Mark}
 use Rattle.yaml_text.specs.Mark.{Place}
@@ -19,12 +21,11 @@ use Rattle.yaml_scan.specs.declared.Candidate.{Candidate}
 use Rattle.yaml_scan.specs.declared.Candidate.the-variants.{Absent, Possible}
 use Rattle.yaml_scan.specs.declared.Choice.{Choice}
 use Rattle.yaml_scan.specs.declared.Choice.the-variants.{AtColon, AtComma, AtPlain, Closes, Opens}
-use Rattle.yaml_scan.specs.declared.Level.{Level}
 use Rattle.yaml_scan.specs.declared.Limits.{Limits}
 use Rattle.yaml_scan.specs.Indent.{Unrolled, top-ends}
 use Rattle.yaml_scan.specs.Keys.{lapse, set-key, top-key}
-use Rattle.yaml_scan.specs.State.{Event, News, State, allow, at-place, block-ends, empty-if, ends-with, goes-on, in-flow, lapse-key, mark-of, on-level, preceded, put, remove-key, save-key, with-keys}
-use Rattle.yaml_scan.specs.Bracket.{fetch-flow-collection-end, fetch-flow-collection-start, fetch-flow-entry, implicit-open, new-entry, stack-bracket}
+use Rattle.yaml_scan.specs.State.{Event, News, State, allow, at-place, block-ends, empty-if, ends-with, goes-on, in-flow, lapse-key, mark-of, preceded, put, remove-key, save-key, with-keys}
+use Rattle.yaml_scan.specs.Bracket.{fetch-flow-collection-end, fetch-flow-collection-start, fetch-flow-entry, implicit-open, stack-bracket}
 use Rattle.yaml_scan.specs.Value.{value-by, value-with}
 use Rattle.yaml_scan.specs.Choice.{choice}
 use Rattle.yaml_scan.specs.Fetch.{fetch, fetch-plain-scalar}
@@ -34,12 +35,14 @@ use Rattle.yaml_scan.specs.SlotLaws.{total}
 use Rattle.yaml_scan.specs.Steps.{one-most, unrolled-state}
 use Rattle.yaml_scan.specs.Budget.{on-news}
 use Rattle.theorems.specs.NestingSteps.{unrolled-in}
-use Rattle.yaml_stream.specs.Stream.{Called, Stream, after-news, behind, broken, closing, crowded, first-of, give, most-waiting, possible, ready, scanning, stepped, waits}
+use Rattle.yaml_stream.specs.Stream.{Stream, after-news, behind, broken, closing, crowded, first-of, give, most-waiting, possible, ready, scanning, stepped, waits}
 use Rattle.yaml_stream.specs.Waits.{flat-length, waits-total}
 use Rattle.yaml_stream.specs.Totals.{total-if, total-then}
 use Rattle.yaml_stream.specs.Alone.{Absents, absents-drop, absents-not}
 use Rattle.yaml_stream.specs.Here.{Alone}
-use Rattle.yaml_stream.specs.Waiting.{Reaches, then-give as given}
+use Rattle.yaml_stream.specs.Waiting.{Reaches}
+use Rattle.yaml_stream.specs.Opened.{level-flow}
+use Rattle.yaml_stream.specs.Ahead.{ahead-reaches, free-ahead}
 
 -- what stands next, behind the gap
 abbrev pub next-choice : State → Read Choice
@@ -122,14 +125,6 @@ abbrev Commas : State → News → Type 0
 Commas s (goes-on es t) = Stays 2 s es t × (Absents (drop 1 (s .keys)) → Absents (t .keys))
 Commas s (ends-with es) = Unit {0}
 
-abbrev flow-in : List Level → Bool
-flow-in ls = elim ls [ [] ↦ false | l ∷ ks ↦ true ]
-
-entry-flows : (ls : List Level) → flow-in ls ≡ true → flow-in (new-entry ls) ≡ true
-unfolding on-level
-entry-flows [] e = e
-entry-flows (l ∷ ls) e = refl
-
 comma-says : (b : Bool) (m : Mark) (t : Token) → total (empty-if b FlowMappingEnd m ++ (put t ∷ [])) ≤ 2
 comma-says b m t = omega (arith, total-then (empty-if b FlowMappingEnd m) t, total-if b FlowMappingEnd m, one-most b)
 
@@ -139,7 +134,7 @@ comma-fetched limits s v f =
     all-bind _ (all-any _) (λ l _. said (record {
       says = rw (ends-none (unrolled v .ended) (mark-of v) (empty-if (implicit-open (v .levels)) FlowMappingEnd (mark-of v) ++ (put (l .token) ∷ [])) (f .no-ends))
           (comma-says (implicit-open (v .levels)) (mark-of v) (l .token));
-      flows = entry-flows (v .levels) (f .flows);
+      flows = level-flow _ (v .levels) ∙ f .flows;
       outer = λ k. rw (f .same-keys) k;
     }) (λ k. rw (f .same-keys) k))
   where
@@ -360,26 +355,12 @@ colon-uses limits s v required n m e c k =
 
 -- from the ':' to the list's first entry
 
-gives-first : (s : State) (k used : ℕ) (z : Slot) (zs : List Slot) → Absents (s .keys)
-    → give (scanning s k (z ∷ zs) used) ≡ first-of (λ j ws. scanning s j ws used) k (z .before) (z .token) zs
-unfolding give
-gives-first s k used z zs h = rw (absents-not k (s .keys) h, give)
-
-slot-given : (limits : Limits) (room : ℕ) {x : Stream} (s : State) (k used : ℕ) (bs : List Token) (t : Token) (ys : List Slot) → Absents (s .keys)
-    → Reaches limits room x (scanning s k (slot t bs ∷ ys) used) → Reaches limits room x (scanning s (suc k) ys used)
-unfolding first-of
-slot-given limits room s k used [] t ys h r =
-    let e = ap (λ (c : Called). c .stream) (gives-first s k used (slot t []) ys h) in
-    rw e at (given r)
-slot-given limits room s k used (b ∷ bs) t ys h r =
-    let e = ap (λ (c : Called). c .stream) (gives-first s k used (slot t (b ∷ bs)) ys h) in
-    slot-given limits room s k used bs t ys h (rw e at (given r))
-
 -- where no candidate is left, all that waits is given, without a step
 pub drained : (limits : Limits) (room : ℕ) {x : Stream} (s : State) (n used : ℕ) (xs : List Slot) → Absents (s .keys) → Reaches limits room x (scanning s n xs used)
     → (k : ℕ) × Reaches limits room x (scanning s k [] used)
-drained limits room s n used [] h r = (n, r)
-drained limits room s n used (y ∷ ys) h r = drained limits room s (suc n) used ys h (slot-given limits room s n used (y .before) (y .token) ys h r)
+drained limits room s n used xs h r =
+    let k = length xs in
+    (n + k, rw (drop-length xs) at (ahead-reaches limits room r (free-ahead limits room s n k xs used (le-refl k) (λ i _. absents-not i (s .keys) h))))
 
 -- over a gap none comes
 

@@ -27,7 +27,7 @@ use Rattle.yaml_scan.specs.Steps.{Gapped, Takes, gapped, inside, lapses, stays,
 use Rattle.yaml_stream.specs.Stream.{crowded, most-waiting, possible, ready, scanning}
 use Rattle.yaml_stream.specs.Alone.{Absents, absents-not}
 use Rattle.yaml_stream.specs.Here.{Levelled}
-use Rattle.yaml_stream.specs.Lowest.{names}
+use Rattle.yaml_stream.specs.Lowest.{names, or-none}
 
 -- the candidate of flow level l, in a list that has the current level first and level 0 last
 unfoldable pub level-key : ℕ → List Candidate → Candidate
@@ -68,10 +68,6 @@ unfolding level-key possible names
 on-at n l [] h = refl
 on-at n l (k ∷ ks) h = by-rest (on-at n l ks (h .1))
   where
-    or-false : (p : Bool) → (p || false) ≡ p
-    or-false true = refl
-    or-false false = refl
-
     by-rest : At n l ks → At n l (k ∷ ks)
     by-rest a =
         by-test (eqb l (length ks))
@@ -79,7 +75,7 @@ on-at n l (k ∷ ks) h = by-rest (on-at n l ks (h .1))
         let d = eqb-true l (length ks) e in
         let f : possible n ks ≡ false = a ∙ ap (names n) (level-none l ks (omega arith)) in
         let g : level-key l (k ∷ ks) ≡ k = ap (λ (i : ℕ). level-key i (k ∷ ks)) d ∙ level-top k ks in
-        possible-first n k ks ∙ rw (f, g) (or-false (names n k)))
+        possible-first n k ks ∙ rw (f, g) (or-none (names n k)))
         (λ e. by-test (names n k)
         (λ f. true-false (sym (eq-eqb l (length ks) (h .0 f)) ∙ e))
         (λ f.

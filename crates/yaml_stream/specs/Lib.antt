@@ -6,6 +6,7 @@ pub mod Tale
 pub mod Sizes
 pub mod Silent
 pub mod Waits
+pub mod Seeks
 pub mod Given
 pub mod Answers
 pub mod Enough
@@ -19,7 +20,6 @@ pub mod Lowest
 pub mod Levels
 pub mod Notes
 pub mod Noted
-pub mod Seeks
 pub mod Between
 pub mod Ahead
 pub mod Opened

@@ -57,6 +57,10 @@ lowest-between n b (Possible required k m ∷ ks) h f = by-lowest (lowest ks) (l
     by-lowest Absent i = (h .0, f .0)
     by-lowest (Possible r j p) i = (i .0, omega (arith, i .1, f .0))
 
+pub or-none : (p : Bool) → (p || false) ≡ p
+or-none true = refl
+or-none false = refl
+
 pub possible-lowest : (n b : ℕ) (ks : List Candidate) → From n ks → Fall b ks → possible n ks ≡ names n (lowest ks)
 unfolding possible lowest names
 possible-lowest n b [] h f = refl
@@ -64,12 +68,8 @@ possible-lowest n b (Absent ∷ ks) h f = rw (unless-absent (lowest ks)) (possib
 possible-lowest n b (Possible required k m ∷ ks) h f =
     ap (λ (p : Bool). eqb n k || p) (possible-lowest n k ks (h .1) (f .1)) ∙ by-lowest (lowest ks) (lowest-between n k ks (h .1) (f .1))
   where
-    or-false : (p : Bool) → (p || false) ≡ p
-    or-false true = refl
-    or-false false = refl
-
     by-lowest : (c : Candidate) → Between n k c → (eqb n k || names n c) ≡ names n (unless (Possible required k m) c)
-    by-lowest Absent i = or-false (eqb n k)
+    by-lowest Absent i = or-none (eqb n k)
     by-lowest (Possible r j p) i = rw (ne-eqb n k (λ e. omega (arith, i .0, i .1)))
 
 pub lowest-none : (ks : List Candidate) → Absents ks → lowest ks ≡ Absent

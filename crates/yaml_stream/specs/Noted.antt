@@ -17,14 +17,14 @@ use Rattle.yaml_scan.specs.declared.Limits.{Limits}
 use Rattle.yaml_scan.specs.State.{Event, News, State, ends-with, goes-on}
 use Rattle.yaml_scan.specs.Scan.{step}
 use Rattle.yaml_scan.specs.Slots.{Slot, flat, slot}
-use Rattle.yaml_scan.specs.SlotLaws.{Holds, total}
+use Rattle.yaml_scan.specs.SlotLaws.{Holds, slots-total, total}
 use Rattle.yaml_scan.specs.Candidates.{Given, Placed, Sound, given, late, ready}
 use Rattle.yaml_scan.specs.Runs.{Stepped, step-news}
 use Rattle.yaml_scan.specs.Budget.{begin-sound, on-news}
 use Rattle.yaml_stream.specs.Stream.{Stream, after-news, begun, behind, broken, call, closing, counted-from, crowded, first-of, fresh, give, least-records, possible, scanning, stepped, waits}
 use Rattle.yaml_stream.specs.Kept.{Kept, NotesFrom, step-keeps}
 use Rattle.yaml_stream.specs.Waiting.{Held, Keeps, Reaches, call-reaches, fresh-keeps, here, reaches-keeps, then-give, then-step}
-use Rattle.yaml_stream.specs.Notes.{AllNoted, Notes, NotesIn, counted-given, counted-notes, counted-placed, counted-total, holds-after, no-note, note-rest, noted-after, step-notes, total-after}
+use Rattle.yaml_stream.specs.Notes.{AllNoted, Notes, NotesIn, counted-given, counted-notes, counted-placed, counted-total, holds-after, no-note, note-rest, noted-after, step-notes}
 
 -- what waits
 pub record Noted (s : State) (n : ℕ) (xs : List Slot) : Type 0 where
@@ -70,7 +70,7 @@ stores s n xs es c h p f k =
       later = f;
       noted = h .noted;
       noted-then = noted-after (map (counted-from n) es) (drop n (h .all)) xs (h .holds-last) q i (h .noted);
-      counts = total-after (map (counted-from n) es) (drop n (h .all)) xs (h .holds-last) q ∙ ap (λ (k' : ℕ). length (flat xs) + k') (counted-total n es);
+      counts = slots-total (drop n (h .all)) xs (map (counted-from n) es) (h .holds-last) q ∙ ap (λ (k' : ℕ). length (flat xs) + k') (counted-total n es);
     }
 
 -- what the slots hold then

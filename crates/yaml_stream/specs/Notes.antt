@@ -20,7 +20,7 @@ use Rattle.yaml_scan.specs.Bracket.{implicit-open}
 use Rattle.yaml_scan.specs.Document.{all-ends}
 use Rattle.yaml_scan.specs.Scan.{step, unrolled}
 use Rattle.yaml_scan.specs.Slots.{Slot, flat, note, slot, slots}
-use Rattle.yaml_scan.specs.SlotLaws.{Holds, flat-more, holds-more, holds-noted, total}
+use Rattle.yaml_scan.specs.SlotLaws.{Holds, holds-more, holds-noted, total}
 use Rattle.yaml_scan.specs.Candidates.{EmptyAt, Free, Given, OnlyPuts, Placed, fresh, given, note-at, only-append, only-ends, only-if, only-one}
 use Rattle.yaml_scan.specs.Moves.{Move, Moves, begins, block-start, closes, goes-in, leaves, opens, pair-end, parts, tells, uses}
 use Rattle.yaml_scan.specs.Steps.{Gapped, Takes, step-by, unrolled-state}
@@ -140,27 +140,6 @@ noted-after [] gs xs h p k r = r
 noted-after (put t ∷ es) gs xs h p k r = noted-after es (gs ++ (fresh (t .start) ∷ [])) (xs ++ (slot t [] ∷ [])) (holds-more gs xs t h) p k (noted-more xs t r)
 noted-after (put-before n ts ∷ es) gs xs h p k r =
     noted-after es (note-at n gs) (note n ts xs) (holds-noted gs xs n ts h) (p .3) (k .1) (noted-note gs xs n (p .0) ts h (p .1) (note-there (p .0) (k .0 .1) (p .2)) r)
-
--- how many tokens they come to
-
-total-note : (gs : List Given) (xs : List Slot) (n : ℕ) (m : Mark) (ts : List Token) → Holds gs xs → Free gs n m → length (flat (note n ts xs)) ≡ length (flat xs) + length ts
-unfolding note flat
-total-note [] [] n m ts h f = absurd (omega (arith, f .0))
-total-note [] (x ∷ xs) n m ts h f = absurd h
-total-note (g ∷ gs) [] n m ts h f = absurd h
-total-note (g ∷ gs) (x ∷ xs) zero m ts h f =
-    let e : length (x .before) ≡ 0 = ap length (h .1 (ap (λ (j : Given). j .noted) (f .1))) in
-    omega (arith, flat-length x xs, flat-length (slot (x .token) ts) xs)
-total-note (g ∷ gs) (x ∷ xs) (suc n) m ts h f =
-    omega (arith, flat-length x xs, flat-length x (note n ts xs), total-note gs xs n m ts (h .2) (omega (arith, f .0), f .1))
-
-pub total-after : (es : List Event) (gs : List Given) (xs : List Slot) → Holds gs xs → Placed gs es → length (flat (slots xs es)) ≡ length (flat xs) + total es
-unfolding slots total Placed
-total-after [] gs xs h p = omega arith
-total-after (put t ∷ es) gs xs h p =
-    omega (arith, total-after es (gs ++ (fresh (t .start) ∷ [])) (xs ++ (slot t [] ∷ [])) (holds-more gs xs t h) p, flat-more xs t)
-total-after (put-before n ts ∷ es) gs xs h p =
-    omega (arith, total-after es (note-at n gs) (note n ts xs) (holds-noted gs xs n ts h) (p .3), total-note gs xs n (p .0) ts h (p .1))
 
 -- each slot has its token and those before it
 unfoldable pub befores : List Slot → ℕ

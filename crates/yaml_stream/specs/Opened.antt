@@ -36,10 +36,11 @@ same-flow : (s t : State) → t .levels ≡ s .levels → in-flow t ≡ in-flow 
 unfolding in-flow
 same-flow s t e = rw e
 
-abbrev flow-in : List Level → Bool
+abbrev pub flow-in : List Level → Bool
 flow-in ls = elim ls [ [] ↦ false | l ∷ ks ↦ true ]
 
-level-flow : (f : Level → Level) (ls : List Level) → flow-in (on-level f ls) ≡ flow-in ls
+-- a change of the current level leaves it there
+pub level-flow : (f : Level → Level) (ls : List Level) → flow-in (on-level f ls) ≡ flow-in ls
 unfolding on-level
 level-flow f [] = refl
 level-flow f (l ∷ ls) = refl
@@ -81,6 +82,10 @@ module _ (limits : Limits) (s : State) where
   -- as many levels as before
   shut : (es : List Event) (t : State) → in-flow t ≡ in-flow s → All News (Opened limits s) (got (goes-on es t))
   shut es t e = holds {a = goes-on es t} (λ f g. true-false (sym g ∙ e ∙ f))
+
+  -- in flow before it
+  within : {es : List Event} {t : State} → in-flow s ≡ true → All News (Opened limits s) (got (goes-on es t))
+  within {es} {t} e = holds {a = goes-on es t} (λ f g. true-false (sym e ∙ f))
 
   same : (es : List Event) (t : State) → t .levels ≡ s .levels → All News (Opened limits s) (got (goes-on es t))
   same es t e = shut es t (same-flow s t e)
@@ -127,10 +132,7 @@ module _ (limits : Limits) (s : State) where
   collection-end-opened : (sequence : Bool) → All News (Opened limits s) (fetch-flow-collection-end sequence s)
   unfolding fetch-flow-collection-end in-flow
   collection-end-opened sequence =
-      all-test _ _ _ _ (λ c. all-bind _ (all-any _) (λ l _. inside (closes-flow sequence (s .levels) c)))
-    where
-      inside : {es : List Event} {t : State} → in-flow s ≡ true → All News (Opened limits s) (got (goes-on es t))
-      inside {es} {t} e = holds {a = goes-on es t} (λ f g. true-false (sym e ∙ f))
+      all-test _ _ _ _ (λ c. all-bind _ (all-any _) (λ l _. within (closes-flow sequence (s .levels) c)))
 
   flow-entry-opened : All News (Opened limits s) (fetch-flow-entry s)
   unfolding fetch-flow-entry remove-key in-flow
@@ -154,13 +156,10 @@ collection-start-opened : (limits : Limits) (s : State) → depth s ≤ limits .
 unfolding fetch-flow-collection-start
 collection-start-opened limits s h k sequence =
     by-test (in-flow s)
-    (λ e. all-bind _ (all-any _) (λ t _. all-need _ _ _ _ (all-bind _ (all-any _) (λ l _. inside e))))
+    (λ e. all-bind _ (all-any _) (λ t _. all-need _ _ _ _ (all-bind _ (all-any _) (λ l _. within limits s e))))
     (λ e. all-bind _ (bracket-open limits (save-key s) (rw (saved-indents s) h) k (same-flow s (save-key s) (saved-levels s) ∙ e))
     (λ t b. all-need _ _ _ _ (all-bind _ (all-any _) (λ l _. outside b))))
   where
-    inside : {es : List Event} {t : State} → in-flow s ≡ true → All News (Opened limits s) (got (goes-on es t))
-    inside {es} {t} e = holds {a = goes-on es t} (λ f g. true-false (sym e ∙ f))
-
     outside : {es : List Event} {t : State} → suc (blocks-of (t .indents)) ≤ limits .entries → All News (Opened limits s) (got (goes-on es t))
     outside {es} {t} b = holds {a = goes-on es t} (λ f g. b)
 

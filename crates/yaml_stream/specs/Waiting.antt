@@ -86,7 +86,7 @@ few-before {s = s} {n = n} {xs = xs} used h r = by-slots xs refl
     by-slots (y ∷ ys) e = by-few (not-false (possible n (s .keys)) (rw e at r)) (h .few)
 
 -- the first waiting token is a candidate, or none waits
-holds-before : {limits : Limits} {s : State} {n : ℕ} {xs : List Slot} (used : ℕ) → Held limits s n xs → ready (scanning s n xs used) ≡ false → Holds n (s .keys)
+pub holds-before : {limits : Limits} {s : State} {n : ℕ} {xs : List Slot} (used : ℕ) → Held limits s n xs → ready (scanning s n xs used) ≡ false → Holds n (s .keys)
 unfolding ready
 holds-before {s = s} {n = n} {xs = xs} used h r = by-slots xs refl
   where
@@ -118,7 +118,8 @@ few-behind : (s : State) (n k : ℕ) (xs others : List Slot) (last : Token) → 
 few-behind s n k xs others last e f c (inl p) = inl (not-crowded s n xs c p)
 few-behind s n k xs others last e f c (inr h) = inr (record { others = others; last = last; is = e; later = rw f at h })
 
-waits-then : (n : ℕ) (xs : List Slot) (es front : List Event) (last : Token) → es ≡ front ++ (put last ∷ []) → waits n xs es ≡ waits n xs front ++ (slot last [] ∷ [])
+-- the last token of events is the last that waits, and nothing goes in before it yet
+pub waits-then : (n : ℕ) (xs : List Slot) (es front : List Event) (last : Token) → es ≡ front ++ (put last ∷ []) → waits n xs es ≡ waits n xs front ++ (slot last [] ∷ [])
 unfolding waits slots
 waits-then n xs es front last e = ap (λ (fs : List Event). waits n xs fs) e ∙ waits-append n xs front (put last ∷ [])
 
