@@ -28,7 +28,7 @@ use Rattle.yaml_stream.specs.Kept.{From}
 use Rattle.yaml_stream.specs.Alone.{LastOf, step-last}
 use Rattle.yaml_stream.specs.Waiting.{Held, Keeps, Reaches, call-reaches, here as at-once, holds-before, not-false, reaches-keeps, stepped-keeps, waits-then}
 use Rattle.yaml_stream.specs.Answers.{Comes, here, then-call}
-use Rattle.yaml_stream.specs.Levels.{OnLevel, fall-not, new-on, on-absents, on-none, step-on}
+use Rattle.yaml_stream.specs.Levels.{OnLevel, new-on, on-absents, on-none}
 use Rattle.yaml_stream.specs.Seeks.{found-ready}
 
 -- nothing goes in yet before the last token that waits
@@ -115,19 +115,6 @@ step-pauses limits s n xs used h r es t e = by-alone (m .1 .alone (holds-before 
       others-not = λ i b. from-not i (m .0) (t .keys) f (omega (arith, m .2));
       bare = inr (record { others = waits n xs (m .1 .front); last = m .1 .last; is = waits-then n xs es (m .1 .front) (m .1 .last) (m .1 .is) });
     })
-
--- within a call the candidate that the first waiting token may be stays on its level: where nothing waited before the step, that from which it is made
-pub first-level : {limits : Limits} {s : State} {n : ℕ} {xs : List Slot} (l : ℕ) → Held limits s n xs → (xs ≡ [] → l ≡ length (s .levels)) → OnLevel n l (s .keys)
-    → (es : List Event) (t : State) → step limits s ≡ got (goes-on es t) → OnLevel n l (t .keys)
-first-level {limits} {s} {n} {xs} l h f o es t e = all-got (step-on n l limits s (h .levelled) (λ b. f (none xs (omega (arith, h .counted)))) o) e
-  where
-    none : (ys : List Slot) → length ys ≤ 0 → ys ≡ []
-    none [] b = refl
-    none (y ∷ ys) b = absurd (omega arith)
-
--- where nothing waits, every level will do
-pub no-level : {limits : Limits} {s : State} {n : ℕ} (l : ℕ) → Held limits s n [] → OnLevel n l (s .keys)
-no-level {s = s} {n = n} l h = on-none n l (s .keys) (fall-not n (s .count) (s .keys) (h .falls) (omega (arith, h .counted)))
 
 -- a token is given
 
@@ -237,9 +224,6 @@ call-between limits room x h b =
     by-mid : (y : Stream) → ready y ≡ true → MidIn y → BetweenIn y
     by-mid y e (inl f) = true-false (sym e ∙ f)
     by-mid y e (inr c) = c
-
-pub call-keeps : (limits : Limits) (room : ℕ) (x : Stream) → Keeps limits x → Keeps limits (call limits room x .stream)
-call-keeps limits room x h = reaches-keeps limits room h (call-reaches limits room x at-once)
 
 -- a fresh state
 

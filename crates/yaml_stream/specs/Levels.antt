@@ -1,10 +1,10 @@
 -- Candidates and flow levels: a step moves no candidate to another level, and a new one is that of the level from which the step was made.
-use Prim.Native.Nat.{_<_, _≤_, ℕ}
-use mathlib.Core.Bool.{Bool, _&&_, _||_, false, not, true}
+use Prim.Native.Nat.{_≤_, ℕ}
+use mathlib.Core.Bool.{Bool, _||_, false, true}
 use mathlib.Core.List.{List, [], _∷_}
 use mathlib.Core.Path.{_∙_, _≡_, ap, refl, sym}
 use native.Mathlib.Omega.{arith}
-use lib.Dec.{eqb, ltb}
+use lib.Dec.{eqb}
 use lib.ListN.{drop, length, length-drop}
 use borrow.Author.Tests.{eq-eqb, eqb-true, ne-eqb}
 use Rattle.yaml_text.specs.Mark.{Place}
@@ -20,11 +20,10 @@ use Rattle.yaml_scan.specs.Indent.{Indents}
 use Rattle.yaml_scan.specs.Keys.{set-key, top-key}
 use Rattle.yaml_scan.specs.State.{Event, News, State, block-ends, ends-with, goes-on, mark-of, preceded, save-key}
 use Rattle.yaml_scan.specs.Scan.{step, unrolled}
-use Rattle.yaml_scan.specs.Slots.{Slot, flat}
 use Rattle.yaml_scan.specs.Candidates.{Fall}
 use Rattle.yaml_scan.specs.Moves.{Move, Moves, begins, closes, leaves, opens, parts, tells, uses}
 use Rattle.yaml_scan.specs.Steps.{Gapped, Takes, gapped, inside, lapses, stays, step-by, unrolled-state}
-use Rattle.yaml_stream.specs.Stream.{crowded, most-waiting, possible, ready, scanning}
+use Rattle.yaml_stream.specs.Stream.{possible}
 use Rattle.yaml_stream.specs.Alone.{Absents, absents-not}
 use Rattle.yaml_stream.specs.Here.{Levelled}
 use Rattle.yaml_stream.specs.Lowest.{names, or-none}
@@ -81,16 +80,6 @@ on-at n l (k ∷ ks) h = by-rest (on-at n l ks (h .1))
         (λ f.
         let g : level-key l (k ∷ ks) ≡ level-key l ks = rw (e, level-key) in
         possible-first n k ks ∙ rw (f, g) a))
-
--- so one level's candidate tells whether the first token that waits is a possible key
-
-pub level-ready : (l : ℕ) (s : State) (n : ℕ) (x : Slot) (xs : List Slot) (used : ℕ) → OnLevel n l (s .keys) → ready (scanning s n (x ∷ xs) used) ≡ not (names n (level-key l (s .keys)))
-unfolding ready
-level-ready l s n x xs used h = ap not (on-at n l (s .keys) h)
-
-pub level-crowded : (l : ℕ) (s : State) (n : ℕ) (xs : List Slot) → OnLevel n l (s .keys) → crowded s n xs ≡ (ltb most-waiting (length (flat xs)) && names n (level-key l (s .keys)))
-unfolding crowded
-level-crowded l s n xs h = ap (λ (b : Bool). ltb most-waiting (length (flat xs)) && b) (on-at n l (s .keys) h)
 
 -- where token n is no possible key, every level will do
 pub on-none : (n l : ℕ) (ks : List Candidate) → possible n ks ≡ false → OnLevel n l ks
@@ -165,11 +154,6 @@ step-on n l limits s v c h = step-by limits s by-news
         let i = gap-same g v in
         on-move n l (unrolled-state t) (m .2) (rw (i .0) (i .2)) (λ e. c (omega (arith, i .1)) ∙ ap length (sym (i .0))) (on-gap n l g h)
     by-news t g (ends-with es) m k = tt
-
--- an old token stays on its level, or is no possible key any more
-pub old-on : (n l : ℕ) (limits : Limits) (s : State) (es : List Event) (t : State) → step limits s ≡ got (goes-on es t) → Levelled (s .keys) (s .levels)
-    → n < s .count → OnLevel n l (s .keys) → OnLevel n l (t .keys)
-old-on n l limits s es t e v b h = all-got (step-on n l limits s v (λ c. absurd (omega arith)) h) e
 
 -- a new one is on the level from which the step was made
 pub new-on : (n : ℕ) (limits : Limits) (s : State) (es : List Event) (t : State) → step limits s ≡ got (goes-on es t) → Levelled (s .keys) (s .levels)

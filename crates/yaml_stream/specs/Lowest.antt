@@ -1,12 +1,11 @@
 -- Candidates' numbers rise with the level, and none is below the first that waits. So that one is a possible key exactly if it is the candidate of the lowest level that has one.
 use Prim.Native.Nat.{_<_, _≤_, ℕ}
 use mathlib.Core.Bool.{Bool, _||_, false, true}
-use mathlib.Core.List.{List, [], _++_, _∷_}
+use mathlib.Core.List.{List, [], _∷_}
 use mathlib.Core.Path.{_∙_, _≡_, ap, refl}
 use native.Mathlib.Omega.{arith}
 use lib.Dec.{eqb}
 use borrow.Author.Tests.{ne-eqb}
-use Rattle.yaml_text.specs.declared.Mark.{Mark}
 use Rattle.yaml_scan.specs.declared.Candidate.{Candidate}
 use Rattle.yaml_scan.specs.declared.Candidate.the-variants.{Absent, Possible}
 use Rattle.yaml_scan.specs.declared.Limits.{Limits}
@@ -15,7 +14,6 @@ use Rattle.yaml_scan.specs.Slots.{Slot}
 use Rattle.yaml_scan.specs.Candidates.{Fall}
 use Rattle.yaml_stream.specs.Stream.{fresh, possible, scanning}
 use Rattle.yaml_stream.specs.Kept.{From}
-use Rattle.yaml_stream.specs.Alone.{Absents}
 use Rattle.yaml_stream.specs.Waiting.{Reaches, fresh-keeps, reaches-keeps}
 
 -- the candidate of a level, unless one further out has one
@@ -31,11 +29,6 @@ lowest (k ∷ ks) = unless k (lowest ks)
 unless-absent : (c : Candidate) → unless Absent c ≡ c
 unless-absent Absent = refl
 unless-absent (Possible required n m) = refl
-
--- a level without one changes nothing
-pub lowest-push : (ks : List Candidate) → lowest (Absent ∷ ks) ≡ lowest ks
-unfolding lowest
-lowest-push ks = unless-absent (lowest ks)
 
 -- it is token n
 unfoldable pub names : ℕ → Candidate → Bool
@@ -71,18 +64,6 @@ possible-lowest n b (Possible required k m ∷ ks) h f =
     by-lowest : (c : Candidate) → Between n k c → (eqb n k || names n c) ≡ names n (unless (Possible required k m) c)
     by-lowest Absent i = or-none (eqb n k)
     by-lowest (Possible r j p) i = rw (ne-eqb n k (λ e. omega (arith, i .0, i .1)))
-
-pub lowest-none : (ks : List Candidate) → Absents ks → lowest ks ≡ Absent
-unfolding lowest
-lowest-none [] h = refl
-lowest-none (Absent ∷ ks) h = lowest-push ks ∙ lowest-none ks h
-lowest-none (Possible required k m ∷ ks) h = absurd h
-
--- where a level has a candidate and none further out has one, it is that
-pub lowest-is : (ks : List Candidate) (required : Bool) (n : ℕ) (m : Mark) (outer : List Candidate) → Absents outer → lowest (ks ++ (Possible required n m ∷ outer)) ≡ Possible required n m
-unfolding lowest
-lowest-is [] required n m outer h = rw (lowest-none outer h)
-lowest-is (k ∷ ks) required n m outer h = rw (lowest-is ks required n m outer h)
 
 -- in every stream that calls come to
 pub first-possible : (limits : Limits) (bytes : List ℕ) (words room : ℕ) {s : State} {n used : ℕ} {xs : List Slot}

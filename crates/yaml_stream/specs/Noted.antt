@@ -1,4 +1,4 @@
--- In every stream that calls come to, what waits is made of notes, each noted once: so what a step says can be stored in the slots, and the tokens that wait are counted as they come.
+-- In every stream that calls come to, what waits is made of notes, each noted once: for steps put in notes, before tokens that wait and have none, and a call takes them from the front.
 use Prim.Native.Nat.{_+_, _/_, _≤_, suc, ℕ}
 use mathlib.Core.List.{List, [], _∷_, map}
 use mathlib.Core.Path.{_∙_, _≡_, ap, refl, sym}
@@ -10,21 +10,21 @@ use Rattle.yaml_text.specs.Refusal.{Read, got, refused}
 use Rattle.yaml_text.specs.Mark.{origin}
 use Rattle.yaml_text.specs.DecodeLaws.{Decodes, NoNul, decode-is}
 use Rattle.yaml_text.specs.Test.{by-test}
-use Rattle.yaml_text.specs.All.{All, all-both, all-got, all-weak, holds, not-read}
+use Rattle.yaml_text.specs.All.{All, all-both, all-weak, holds, not-read}
 use Rattle.yaml_lexeme.specs.Token.{Token}
 use Rattle.yaml_lexeme.specs.Record.{record-words}
 use Rattle.yaml_scan.specs.declared.Limits.{Limits}
 use Rattle.yaml_scan.specs.State.{Event, News, State, ends-with, goes-on}
 use Rattle.yaml_scan.specs.Scan.{step}
-use Rattle.yaml_scan.specs.Slots.{Slot, flat, slot}
-use Rattle.yaml_scan.specs.SlotLaws.{Holds, slots-total, total}
+use Rattle.yaml_scan.specs.Slots.{Slot, slot}
+use Rattle.yaml_scan.specs.SlotLaws.{Holds}
 use Rattle.yaml_scan.specs.Candidates.{Given, Placed, Sound, given, late, ready}
 use Rattle.yaml_scan.specs.Runs.{Stepped, step-news}
 use Rattle.yaml_scan.specs.Budget.{begin-sound, on-news}
-use Rattle.yaml_stream.specs.Stream.{Stream, after-news, begun, behind, broken, call, closing, counted-from, crowded, first-of, fresh, give, least-records, possible, scanning, stepped, waits}
+use Rattle.yaml_stream.specs.Stream.{Stream, after-news, begun, behind, broken, closing, counted-from, crowded, first-of, fresh, give, least-records, possible, scanning, stepped, waits}
 use Rattle.yaml_stream.specs.Kept.{Kept, NotesFrom, step-keeps}
-use Rattle.yaml_stream.specs.Waiting.{Held, Keeps, Reaches, call-reaches, fresh-keeps, here, reaches-keeps, then-give, then-step}
-use Rattle.yaml_stream.specs.Notes.{AllNoted, Notes, NotesIn, counted-given, counted-notes, counted-placed, counted-total, holds-after, no-note, note-rest, noted-after, step-notes}
+use Rattle.yaml_stream.specs.Waiting.{Held, Keeps, Reaches, fresh-keeps, here, reaches-keeps, then-give, then-step}
+use Rattle.yaml_stream.specs.Notes.{AllNoted, Notes, NotesIn, counted-given, counted-notes, counted-placed, holds-after, no-note, note-rest, noted-after, step-notes}
 
 -- what waits
 pub record Noted (s : State) (n : ℕ) (xs : List Slot) : Type 0 where
@@ -33,17 +33,6 @@ pub record Noted (s : State) (n : ℕ) (xs : List Slot) : Type 0 where
   pub sound : Sound all s
   pub holds-last : Holds (drop n all) xs
   pub noted : AllNoted xs
-
--- events that may be stored in the slots, tokens counted from n on
-pub record Stores (n : ℕ) (xs : List Slot) (es : List Event) : Type 0 where
-  pub waiting : List Given
-  pub held : Holds waiting xs
-  pub placed : Placed waiting (map (counted-from n) es)
-  pub notes : Notes (map (counted-from n) es)
-  pub later : NotesFrom n es
-  pub noted : AllNoted xs
-  pub noted-then : AllNoted (waits n xs es)
-  pub counts : length (flat (waits n xs es)) ≡ length (flat xs) + total es
 
 abbrev pub NotedIn : Stream → Type 0
 NotedIn (scanning s n xs used) = Noted s n xs
@@ -56,47 +45,35 @@ pub sound-count : {gs : List Given} {s : State} → Sound gs s → s .count ≡ 
 sound-count (ready r) = r .counted
 sound-count (late e o r) = r .counted
 
-stores : (s : State) (n : ℕ) (xs : List Slot) (es : List Event) → n + length xs ≡ s .count → (h : Noted s n xs) → Placed (h .all) es → NotesFrom n es → Notes es → Stores n xs es
-unfolding waits
-stores s n xs es c h p f k =
-    let b : n ≤ length (h .all) = omega (arith, sound-count (h .sound)) in
-    let q = counted-placed n es (h .all) b f p in
-    let i = counted-notes n es k in
-    record {
-      waiting = drop n (h .all);
-      held = h .holds-last;
-      placed = q;
-      notes = i;
-      later = f;
-      noted = h .noted;
-      noted-then = noted-after (map (counted-from n) es) (drop n (h .all)) xs (h .holds-last) q i (h .noted);
-      counts = slots-total (drop n (h .all)) xs (map (counted-from n) es) (h .holds-last) q ∙ ap (λ (k' : ℕ). length (flat xs) + k') (counted-total n es);
-    }
+module _ (limits : Limits) (s : State) (n : ℕ) (xs : List Slot) (k : Held limits s n xs) (h : Noted s n xs) where
+  least : n ≤ length (h .all)
+  least = omega (arith, k .counted, sound-count (h .sound))
 
--- what the slots hold then
-holds-then : (s : State) (n : ℕ) (xs : List Slot) (es : List Event) → n + length xs ≡ s .count → (h : Noted s n xs) → NotesFrom n es → Holds (drop n (given (h .all) es)) (waits n xs es)
-unfolding waits
-holds-then s n xs es c h f =
-    let b : n ≤ length (h .all) = omega (arith, sound-count (h .sound)) in
-    rw (sym (counted-given n es (h .all) b f)) (holds-after (map (counted-from n) es) (drop n (h .all)) xs (h .holds-last))
+  -- what the slots hold then, and what goes in before their tokens
+  holds-then : (es : List Event) → NotesFrom n es → Holds (drop n (given (h .all) es)) (waits n xs es)
+  unfolding waits
+  holds-then es f = rw (sym (counted-given n es (h .all) least f)) (holds-after (map (counted-from n) es) (drop n (h .all)) xs (h .holds-last))
 
-abbrev pub StoresIn : ℕ → List Slot → News → Type 0
-StoresIn n xs (goes-on es t) = Stores n xs es × Noted t n (waits n xs es)
-StoresIn n xs (ends-with es) = Stores n xs es × NotedIn (closing (waits n xs es))
+  noted-then : (es : List Event) → Placed (h .all) es → NotesFrom n es → Notes es → AllNoted (waits n xs es)
+  unfolding waits
+  noted-then es p f i =
+      noted-after (map (counted-from n) es) (drop n (h .all)) xs (h .holds-last) (counted-placed n es (h .all) least f p) (counted-notes n es i) (h .noted)
 
-pub step-stores : (limits : Limits) (s : State) (n : ℕ) (xs : List Slot) → Held limits s n xs → Noted s n xs → All News (StoresIn n xs) (step limits s)
-step-stores limits s n xs k h =
-    all-weak by-news (all-both (step-news (h .all) limits s) (all-both (step-keeps n limits s (omega (arith, k .counted)) (k .from)) (step-notes limits s)))
-  where
-    by-news : (w : News) → Stepped (h .all) s w × (Kept n s w × NotesIn w) → StoresIn n xs w
-    by-news (goes-on es t) i =
-        let j = i .0 .sound (h .sound) in
-        let f = i .1 .0 .0 in
-        let z = stores s n xs es (k .counted) h (j .0) f (i .1 .1) in
-        (z, record { all = given (h .all) es; sound = j .1; holds-last = holds-then s n xs es (k .counted) h f; noted = z .noted-then })
-    by-news (ends-with es) i =
-        let z = stores s n xs es (k .counted) h (i .0 (h .sound)) (i .1 .0) (i .1 .1) in
-        (z, (drop n (given (h .all) es), holds-then s n xs es (k .counted) h (i .1 .0), z .noted-then))
+  abbrev pub NotedThen : News → Type 0
+  NotedThen (goes-on es t) = Noted t n (waits n xs es)
+  NotedThen (ends-with es) = NotedIn (closing (waits n xs es))
+
+  pub step-noted : All News NotedThen (step limits s)
+  step-noted = all-weak by-news (all-both (step-news (h .all) limits s) (all-both (step-keeps n limits s (omega (arith, k .counted)) (k .from)) (step-notes limits s)))
+    where
+      by-news : (w : News) → Stepped (h .all) s w × (Kept n s w × NotesIn w) → NotedThen w
+      by-news (goes-on es t) i =
+          let j = i .0 .sound (h .sound) in
+          let f = i .1 .0 .0 in
+          record { all = given (h .all) es; sound = j .1; holds-last = holds-then es f; noted = noted-then es (j .0) f (i .1 .1) }
+      by-news (ends-with es) i =
+          let f = i .1 .0 in
+          (drop n (given (h .all) es), holds-then es f, noted-then es (i .0 (h .sound)) f (i .1 .1))
 
 behind-noted : (room : ℕ) (s : State) (n : ℕ) (xs : List Slot) (used : ℕ) → Noted s n xs → NotedIn (behind room s n xs used)
 unfolding behind
@@ -108,7 +85,7 @@ behind-noted room s n xs used h =
 pub stepped-noted : (limits : Limits) (room : ℕ) (x : Stream) → Keeps limits x → NotedIn x → NotedIn (stepped limits room x)
 unfolding stepped
 stepped-noted limits room (scanning s n xs used) k h =
-    on-news (λ w. NotedIn (after-news room n xs used w)) (step-stores limits s n xs k h) (λ es t i. behind-noted room t n (waits n xs es) _ (i .1)) (λ es i. i .1) (λ _ _. tt)
+    on-news (λ w. NotedIn (after-news room n xs used w)) (step-noted limits s n xs k h) (λ es t i. behind-noted room t n (waits n xs es) _ i) (λ es i. i) (λ _ _. tt)
 stepped-noted limits room (closing xs) k h = h
 stepped-noted limits room (broken j m) k h = tt
 
@@ -168,20 +145,7 @@ reaches-noted limits room k h here = h
 reaches-noted limits room k h (then-step {y = y} r e) = stepped-noted limits room y (reaches-keeps limits room k r) (reaches-noted limits room k h r)
 reaches-noted limits room k h (then-give {y = y} r) = give-noted y (reaches-noted limits room k h r)
 
-pub call-noted : (limits : Limits) (room : ℕ) (x : Stream) → Keeps limits x → NotedIn x → NotedIn (call limits room x .stream)
-call-noted limits room x k h = reaches-noted limits room k h (call-reaches limits room x here)
-
 -- so in every stream that calls come to
 module _ (limits : Limits) (bytes : List ℕ) (words room : ℕ) where
   pub reached-noted : {y : Stream} → Reaches limits room (fresh limits bytes words) y → NotedIn y
   reached-noted r = reaches-noted limits room (fresh-keeps limits bytes words) (fresh-noted limits bytes words) r
-
-  -- what a step says is stored
-  pub reached-stores : {s : State} {n used : ℕ} {xs : List Slot} → Reaches limits room (fresh limits bytes words) (scanning s n xs used)
-      → (es : List Event) (t : State) → step limits s ≡ got (goes-on es t) → Stores n xs es
-  reached-stores {s = s} {n = n} {xs = xs} r es t e = all-got (step-stores limits s n xs (reaches-keeps limits room (fresh-keeps limits bytes words) r) (reached-noted r)) e .0
-
-  -- and what the last one says
-  pub reached-stores-last : {s : State} {n used : ℕ} {xs : List Slot} → Reaches limits room (fresh limits bytes words) (scanning s n xs used)
-      → (es : List Event) → step limits s ≡ got (ends-with es) → Stores n xs es
-  reached-stores-last {s = s} {n = n} {xs = xs} r es e = all-got (step-stores limits s n xs (reaches-keeps limits room (fresh-keeps limits bytes words) r) (reached-noted r)) e .0
