@@ -26,4 +26,5 @@ pub mod Opened
 pub mod Spare
 pub mod Tight
 pub mod InList
+pub mod OnKeyLine
 pub mod Sheet

@@ -37,7 +37,8 @@ use Rattle.yaml_stream.specs.Stream.{Stream, after-news, begun, behind, 
 use Rattle.yaml_stream.specs.Waits.{flat-length, waits-total}
 use Rattle.yaml_stream.specs.Alone.{Absents, absents-not}
 use Rattle.yaml_stream.specs.Waiting.{Reaches, here as from, then-give, then-step}
-use Rattle.yaml_stream.specs.InList.{KeyLine, Listed, comma-listed, comma-stays, listed-few, listed-fewer, next-choice, not-crowded, scalar-listed, scalar-stays}
+use Rattle.yaml_stream.specs.InList.{Listed, comma-listed, comma-stays, listed-few, listed-fewer, next-choice, not-crowded, scalar-listed, scalar-stays}
+use Rattle.yaml_stream.specs.OnKeyLine.{KeyLine}
 
 -- so many seeds, and the list's end
 abbrev pub entries : ℕ → List ℕ
