@@ -28,21 +28,21 @@ pub record Scans (Good : State → List Event → Type 0) (bytes : List ℕ) (es
   pub whole : es ≡ put (empty-token StreamStart origin) ∷ further
   pub good : Good (begin text) further
 
+-- of a step: what holds of what comes behind it holds with it
+abbrev pub Leads : (State → List Event → Type 0) → State → News → Type 0
+Leads Good s (goes-on es u) = (fs : List Event) → Good u fs → Good s (es ++ fs)
+Leads Good s (ends-with es) = Good s es
+
 -- Good: of what comes from a state between two steps; Ready: from a state behind the gap and the ends of blocks
 module _ (limits : Limits) (Good Ready : State → List Event → Type 0)
     (gap : (s t : State) (fs : List Event) → Gapped s t → Ready (unrolled-state t) fs → Good s (block-ends (unrolled t .ended) (mark-of t) ++ fs))
     (move : (s u : State) (es fs : List Event) → Moves s (goes-on es u) → Takes s (goes-on es u) → Good u fs → Ready s (es ++ fs))
     (last : (s : State) (es : List Event) → Moves s (ends-with es) → Ready s es) where
-  Leads : State → News → Type 0
-  Leads s (goes-on es u) = (fs : List Event) → Good u fs → Good s (es ++ fs)
-  Leads s (ends-with es) = Good s es
-
-  step-leads : (s : State) → All News (Leads s) (step limits s)
-  unfolding Leads
+  pub step-leads : (s : State) → All News (Leads Good s) (step limits s)
   step-leads s = step-by limits s by-news
     where
       by-news : (t : State) → Gapped s t → (w : News) → Moves (unrolled-state t) w → Takes (unrolled-state t) w
-          → Leads s (preceded (block-ends (unrolled t .ended) (mark-of t)) w)
+          → Leads Good s (preceded (block-ends (unrolled t .ended) (mark-of t)) w)
       by-news t g (goes-on es u) m k = λ fs h. rw append-assoc (gap s t (es ++ fs) g (move (unrolled-state t) u es fs m k h))
       by-news t g (ends-with es) m k = gap s t es g (last (unrolled-state t) es m)
 
@@ -52,7 +52,7 @@ module _ (limits : Limits) (Good Ready : State → List Event → Type 0)
   after-good P Q es spent f h = tt
 
   run-good : (k : ℕ) (s : State) → OfOutcome (Good s) (run limits k s)
-  unfolding run Leads
+  unfolding run
   run-good zero s = tt
   run-good (suc k) s =
       on-news (λ r. OfOutcome (Good s) (after-step r (λ u. run limits k u))) (step-leads s)

@@ -10,11 +10,12 @@ use lib.ListN.{drop, length}
 use Rattle.yaml_text.specs.declared.Mark.{Mark}
 use Rattle.yaml_text.specs.Utf8.{chars}
 use Rattle.yaml_text.specs.Class.{is-blank-or-breakz, is-z}
-use Rattle.yaml_text.specs.Mark.{Place, look}
+use Rattle.yaml_text.specs.Mark.{Place, look, origin}
 use Rattle.yaml_text.specs.Test.{by-pick}
+use Rattle.yaml_text.specs.All.{All}
 use Rattle.yaml_text.specs.DecodeLaws.{NoNul, no-nul-at}
 use Rattle.yaml_text.specs.PlaceLaws.{fits-no-nul, left}
-use Rattle.yaml_lexeme.specs.Token.{FlowMappingEnd, FlowMappingStart, StreamEnd, Token, empty-token}
+use Rattle.yaml_lexeme.specs.Token.{FlowMappingEnd, FlowMappingStart, StreamEnd, StreamStart, Token, empty-token}
 use Rattle.yaml_lexeme.specs.Block.{one-if}
 use Rattle.yaml_scan.specs.declared.Candidate.{Candidate}
 use Rattle.yaml_scan.specs.declared.Candidate.the-variants.{Absent, Possible}
@@ -23,14 +24,14 @@ use Rattle.yaml_scan.specs.declared.Level.{Level}
 use Rattle.yaml_scan.specs.Indent.{Indents, Rolled}
 use Rattle.yaml_scan.specs.IndentLaws.{blocks-of, open-blocks, unroll-blocks}
 use Rattle.yaml_scan.specs.Keys.{set-key, top-key}
-use Rattle.yaml_scan.specs.State.{Event, State, allow, at-place, block-ends, empty-if, ends-with, goes-on, in-flow, mark-of, put, rest-of, save-key, unroll-to, with-keys}
+use Rattle.yaml_scan.specs.State.{Event, News, State, allow, at-place, block-ends, empty-if, ends-with, goes-on, in-flow, mark-of, put, rest-of, save-key, unroll-to, with-keys}
 use Rattle.yaml_scan.specs.Bracket.{implicit-open}
 use Rattle.yaml_scan.specs.Document.{all-ends}
-use Rattle.yaml_scan.specs.Scan.{outcome, scanned, unrolled}
+use Rattle.yaml_scan.specs.Scan.{begin, outcome, scanned, step, unrolled}
 use Rattle.yaml_scan.specs.Moves.{Begins, Enters, Move, Moves, begins, block-start, closes, goes-in, leaves, opens, pair-end, parts, tells, uses}
 use Rattle.yaml_scan.specs.Steps.{Gapped, Lapses, Takes, gapped, inside, lapses, one-most, stays, unrolled-blocks, unrolled-state}
 use Rattle.yaml_scan.specs.Slots.{tokens-of}
-use Rattle.theorems.specs.Induction.{outcome-good}
+use Rattle.theorems.specs.Induction.{Leads, outcome-good, step-leads}
 use Rattle.theorems.specs.Weigh.{sum, tokens-weigh, weigh, weigh-append, weigh-before, weigh-ends, weigh-if, weigh-last, weigh-one}
 
 -- each token weighs 1
@@ -46,7 +47,7 @@ sum-length [] = refl
 sum-length (t ∷ ts) = omega (arith, sum-length ts)
 
 -- how many candidates are possible
-possible : List Candidate → ℕ
+unfoldable pub possible : List Candidate → ℕ
 possible [] = 0
 possible (Absent ∷ ks) = possible ks
 possible (Possible required n m ∷ ks) = suc (possible ks)
@@ -79,7 +80,7 @@ possible-used (Possible required n m ∷ ks) e = omega arith
 abbrev funds : State → ℕ
 funds s = 2 + 2 * left (s .place) + blocks-of (s .indents) + possible (s .keys)
 
-abbrev Good : State → List Event → Type 0
+abbrev pub Good : State → List Event → Type 0
 Good s fs = NoNul (rest-of s) → total fs + one-if (is-blank-or-breakz (look (s .place))) ≤ funds s
 
 abbrev Ready : State → List Event → Type 0
@@ -172,10 +173,25 @@ end-paid s es m n =
     let t = empty-token StreamEnd (m .0) in
     rw (m .2) (omega (arith, weigh-last one (block-ends e (m .0)) t, weigh-ends one e (m .0) 1 refl, unroll-blocks 0 (s .indents .indent) (s .indents .entries), one-most (is-z (look (s .place)))))
 
+-- of a step, whatever is said behind it
+pub step-paid : (limits : Limits) (s : State) → All News (Leads Good s) (step limits s)
+step-paid limits s = step-leads limits Good Ready gap-paid move-paid end-paid s
+
+-- nothing is said any more
+pub none-paid : (s : State) → Good s []
+unfolding weigh
+none-paid s n = omega (arith, one-most (is-blank-or-breakz (look (s .place))))
+
+-- from the first character on
+pub begin-paid : (cs : List ℕ) (es : List Event) → NoNul cs → Good (begin cs) es → length (tokens-of (put (empty-token StreamStart origin) ∷ es)) ≤ 2 * length cs + 3
+unfolding weigh possible open-blocks
+begin-paid cs es n h =
+    let fs = put (empty-token StreamStart origin) ∷ es in
+    let k : total fs ≤ 2 * length cs + 3 = omega (arith, h n) in
+    omega (arith, tokens-weigh one fs, sum-length (tokens-of fs))
+
 -- of a whole scan
 pub scan-tokens : (limits : Limits) (bytes : List ℕ) (es : List Event) → outcome limits bytes ≡ scanned es → length (tokens-of es) ≤ 2 * length (chars bytes) + 3
-unfolding weigh possible open-blocks
 scan-tokens limits bytes es e =
     let r = outcome-good limits Good Ready gap-paid move-paid end-paid bytes es e in
-    let k : total es ≤ 2 * length (chars bytes) + 3 = rw (r .whole, ← (r .decodes .same)) (omega (arith, r .good (r .decodes .no-nul))) in
-    omega (arith, tokens-weigh one es, sum-length (tokens-of es))
+    rw (r .whole, ← (r .decodes .same)) (begin-paid (r .text) (r .further) (r .decodes .no-nul) (r .good))

@@ -1,11 +1,11 @@
--- A record has its words, and the token of a record is the one whose record it is.
-use Prim.Native.Nat.{_*_, _+_, ℕ}
+-- A record has its words, the first of them is not 0, and the token of a record is the one whose record it is.
+use Prim.Native.Nat.{_*_, _+_, _≤_, ℕ}
 use mathlib.Core.Bool.{true}
 use mathlib.Core.List.{List, [], _++_, _∷_, append-assoc}
 use mathlib.Core.Path.{_∙_, _≡_, ap, refl, sym, transport}
 use native.Mathlib.Omega.{arith}
 use lib.Dec.{eqb}
-use lib.ListN.{drop, length, length-append, take}
+use lib.ListN.{drop, getD, length, length-append, take}
 use lib.Seq.{drop-at, take-at}
 use borrow.Author.Tests.{eqb-true, eq-eqb}
 use Rattle.yaml_text.specs.declared.Mark.{Mark}
@@ -48,6 +48,38 @@ module _ (used : ℕ) (t : Token) (ts : List Token) (l : List ℕ) where
 
   pub other-records : drop record-words (records used (t ∷ ts) ++ l) ≡ records (used + length (token-bytes t)) ts ++ l
   other-records = rw split (drop-at (record-of (laid-token used t)) (others ++ l) record-words (record-length (laid-token used t)))
+
+-- the first word of a record is never 0: it is the number of a kind, and these begin at 1
+
+pub number-some : (k : HeldKind) → 1 ≤ number-of k
+unfolding number-of
+number-some held.StreamStart = omega arith
+number-some held.StreamEnd = omega arith
+number-some (held.VersionDirective a b) = omega arith
+number-some (held.TagDirective t u) = omega arith
+number-some held.DocumentStart = omega arith
+number-some held.DocumentEnd = omega arith
+number-some held.ByteOrderMark = omega arith
+number-some held.BlockSequenceStart = omega arith
+number-some held.BlockMappingStart = omega arith
+number-some held.BlockEnd = omega arith
+number-some held.FlowSequenceStart = omega arith
+number-some held.FlowSequenceEnd = omega arith
+number-some held.FlowMappingStart = omega arith
+number-some held.FlowMappingEnd = omega arith
+number-some held.BlockEntry = omega arith
+number-some held.FlowEntry = omega arith
+number-some held.Key = omega arith
+number-some held.Value = omega arith
+number-some (held.Alias t) = omega arith
+number-some (held.Anchor t) = omega arith
+number-some (held.Tag t u) = omega arith
+number-some (held.Scalar s t) = omega arith
+number-some (held.ReservedDirective t u) = omega arith
+
+pub record-some : (t : HeldToken) → 1 ≤ getD (record-of t) 0 0
+unfolding record-of
+record-some t = number-some (t .kind)
 
 -- the test of lists
 

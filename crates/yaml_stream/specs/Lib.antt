@@ -9,6 +9,8 @@ pub mod Waits
 pub mod Seeks
 pub mod Given
 pub mod Answers
+pub mod Numbers
+pub mod Calls
 pub mod Enough
 pub mod Nesting
 pub mod Depth
