@@ -2,14 +2,16 @@
 #![no_main]
 mod print;
 
-use print::{line, tell_sheet};
+use print::{complain, line, tell_sheet, zeros};
 use std::io::{self, Write};
 use tokenglade::{room, scan_in};
 
 /// The exit status.
 fn list(text: &[u8], out: &mut dyn Write) -> io::Result<i32> {
     let (words, bytes) = room(text);
-    let (mut words, mut bytes) = (vec![0; words], vec![0; bytes]);
+    let (Ok(mut words), Ok(mut bytes)) = (zeros(words), zeros(bytes)) else {
+        return Ok(complain(format_args!("no memory")));
+    };
     let scanned = scan_in(text, &mut words, &mut bytes);
     match scanned {
         Ok(mut tokens) => tokens.try_for_each(|t| writeln!(out, "{}", line(&t))).map(|()| 0),

@@ -3,14 +3,16 @@
 #![no_main]
 mod print;
 
-use print::{line, tell_sheet};
+use print::{complain, line, tell_sheet, zeros};
 use std::io::{self, Write};
 use tokenglade::{stream_room, Stream};
 
 /// The exit status.
 fn next(text: &[u8], out: &mut dyn Write) -> io::Result<i32> {
     let (words, bytes) = stream_room(text);
-    let (mut words, mut bytes) = (vec![0; words], vec![0; bytes]);
+    let (Ok(mut words), Ok(mut bytes)) = (zeros(words), zeros(bytes)) else {
+        return Ok(complain(format_args!("no memory")));
+    };
     let mut last = "";
     for given in Stream::new(text, &mut words, &mut bytes) {
         match given {
@@ -23,8 +25,7 @@ fn next(text: &[u8], out: &mut dyn Write) -> io::Result<i32> {
     }
     // Ended: only behind StreamEnd is the text accepted.
     if last != "StreamEnd" {
-        eprintln!("the tokens ended without StreamEnd");
-        return Ok(2);
+        return Ok(complain(format_args!("the tokens ended without StreamEnd")));
     }
     Ok(0)
 }

@@ -1,7 +1,9 @@
 //! What the examples in Rust share: a sheet is read, and tokens are written as lines.
+use std::collections::TryReserveError;
 use std::fs::File;
 use std::io::{self, BufWriter, Read, Write};
 use std::os::fd::AsFd;
+use std::path::{Path, PathBuf};
 use tokenglade::Token;
 
 /// Writes what a text has; the exit status.
@@ -36,7 +38,7 @@ pub fn line(t: &Token) -> String {
     out
 }
 
-fn read(path: &str) -> io::Result<Vec<u8>> {
+fn read(path: &Path) -> io::Result<Vec<u8>> {
     let mut text = Vec::new();
     File::open(path)?.take(MOST).read_to_end(&mut text)?;
     Ok(text)
@@ -53,20 +55,30 @@ fn tell_text(text: &[u8], tell: Tell) -> io::Result<i32> {
     out.flush().map(|()| status)
 }
 
+/// So many zeros, where there is memory for them.
+pub fn zeros<T: Clone + Default>(len: usize) -> Result<Vec<T>, TryReserveError> {
+    let mut v = Vec::new();
+    v.try_reserve_exact(len)?;
+    v.resize(len, T::default());
+    Ok(v)
+}
+
+/// Says on standard error what is wrong, where it can be said; the exit status.
+pub fn complain(what: std::fmt::Arguments) -> i32 {
+    let _ = writeln!(io::stderr(), "{what}");
+    2
+}
+
 /// Reads the file that the arguments name, and lets `tell` write it; the exit status. A pipe that nobody reads any more ends the program by SIGPIPE.
 /// The programs give it to C as their `main`: before a `main` of Rust's own, /dev/null is opened in place of an output that is closed, and nobody can tell.
 pub fn tell_sheet(name: &str, tell: Tell) -> i32 {
-    let args: Vec<String> = std::env::args().collect();
+    let args: Vec<PathBuf> = std::env::args_os().map(PathBuf::from).collect();
     let [_, path] = args.as_slice() else {
-        eprintln!("usage: {name} FILE");
-        return 2;
+        return complain(format_args!("usage: {name} FILE"));
     };
     let said = match read(path) {
         Ok(text) => tell_text(&text, tell).map_err(|e| format!("standard output: {e}")),
-        Err(e) => Err(format!("{path}: {e}")),
+        Err(e) => Err(format!("{}: {e}", path.display())),
     };
-    said.unwrap_or_else(|e| {
-        eprintln!("{e}");
-        2
-    })
+    said.unwrap_or_else(|e| complain(format_args!("{e}")))
 }

@@ -11,7 +11,8 @@
 extern "C" {
 #endif
 
-/* Words in a record: kind, start (index, line, column), end, offset and length of the first text, of the second, style. */
+/* Words in a record: kind, start (index, line, column), end, offset and length of the first text, of the second, style. A version directive (kind 3) has
+   no text: its major and minor number stand in place of offset and length of the first. */
 #define TOKENGLADE_RECORD_WORDS 12
 
 /* Room that is always enough for a text of c characters (c <= b) and b bytes. */
@@ -41,7 +42,7 @@ void tokenglade_scan(const uint8_t *text, size_t text_len, uint32_t *words, size
 
    Begin with a state of zeros. Zero it again to start anew, with the same text or another. What words and bytes hold at first does not matter.
    At each later call state, words and bytes must hold what the last call left there, the text must be the same, and so must the three lengths. All of
-   them may have moved to other addresses. Where a length changes, a larger one too, nothing is promised; a refusal stays, 5 too.
+   them may have moved to other addresses. Where a length changes, a larger one too, nothing is promised of what a call says; a refusal stays, 5 too.
 
    A token: token is its record, answer is all zero. Its texts stand in bytes, at the offsets that the record has, and stay there. What stands in bytes
    behind the texts of the tokens given may be anything.
@@ -52,20 +53,23 @@ void tokenglade_scan(const uint8_t *text, size_t text_len, uint32_t *words, size
    A text is accepted when its StreamEnd (kind 2) was given, and only then.
 
    Where tokenglade_scan accepts the text, the tokens given are its tokens, in order. Refusals are those of tokenglade_scan, with these differences:
-   - 1, 2 and 3 come at the first call, before any token; then 52 where words holds fewer than TOKENGLADE_STREAM_WORDS.
+   - 1, 2 and 3 come at the first call, before any token; then 52, at index 0, line 1, column 0, where words holds fewer than
+     TOKENGLADE_STREAM_WORDS.
    - A token that counts as a possible key waits, and all behind it wait too, while the scan goes on. A rule that is broken meanwhile is the answer at
      once.
    - 51: more than 4,096 tokens wait, the first one counted, and the first one still counts as a possible key. A bracket that stands where a key may
-     stand ("[1, 2]: x") counts as one until it is closed, even where a ':' behind it would come too late to make it a key: on a later line, or more than
-     1,024 characters on. So does a tag or an anchor in front of it. A JSON text of more than 4,096 tokens therefore gets 51: use tokenglade_scan.
-     51 never comes for a list of plain scalars with commas between, however long, that begins on one line with its key and ':', where no bracket is open
-     around them ("seeds: [1, 2, .."). The mark is where the scan stands. 51 comes ahead of rules that are broken further on.
+     stand ("[1, 2]: x") counts as one until the scan goes on behind its end, even where a ':' there would come too late to make it a key: on a later line,
+     or more than 1,024 characters on. So does a tag or an anchor in front of it. A text that is one JSON value of more than 4,096 tokens, StreamStart and
+     StreamEnd not counted, therefore gets 51: use tokenglade_scan.
+     51 never comes for a list of plain scalars with commas between, however long, that begins on one line with its key, which is not empty, and ':', where
+     no bracket is open around them ("seeds: [1, 2, .."). The mark is where the scan stands. 51 comes ahead of rules that are broken further on.
    - 5: the texts of the tokens scanned so far are more than bytes holds; at index 0, line 1, column 0. It does not say how many bytes are needed.
      TOKENGLADE_BYTES(b) is always enough.
    - 4 never comes.
 
-   Where state or words are not what the last call left, a call returns too: nothing outside state, words, bytes, token and answer is written, and nothing
-   outside them and text is read. But what it says may be anything: ended without StreamEnd, or any number, kind, style, mark, offset and length.
+   Whatever state, words, bytes and text hold, and whatever lengths they have, a call returns: nothing outside state, words, bytes, token and answer is
+   written, and nothing outside them and text is read. But where they are not as said above, what it says may be anything: tokens without end, ended without
+   StreamEnd, or any number, kind, style, mark, offset and length. A text of c characters has at most 2 c + 3 tokens: stop there where a state may be damaged.
    state, text, words, bytes, token and answer must not overlap; a pointer may be anything where its length is 0.
    It takes some 2 KB of stack, whatever the text, and no other memory. Threads may call it at the same time, each with a state, words, bytes, token and
    answer of its own; they may share the text. */

@@ -80,6 +80,6 @@ TOKENGLADE_REFUSAL(46, "'-', '?' or ':' is not allowed here")
 TOKENGLADE_REFUSAL(47, "a bracket is closed by the other kind, is not open, or is left open at the end or at a document marker")
 TOKENGLADE_REFUSAL(48, "more than 255 open blocks, counting a bracket inside a block as one")
 TOKENGLADE_REFUSAL(49, "text after '...' on its line")
-TOKENGLADE_REFUSAL(51, "more than 4,096 tokens wait for one that counts as a possible key until the bracket is closed: begin the list on its key's line, or scan the text at once")
+TOKENGLADE_REFUSAL(51, "more than 4,096 tokens wait for a bracket, tag or anchor that may be a key: begin the list on its key's line, outside other brackets, or scan the text at once")
 TOKENGLADE_REFUSAL(52, "fewer than 52,800 words were lent")
 #endif

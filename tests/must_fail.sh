@@ -236,10 +236,14 @@ for list in target/examples/{list,next}-{c,rust}; do
     fails $list
     fails $list nowhere
     fails "$list examples/sheet.yaml > /dev/full"
+    fails "$list nowhere 2> /dev/full"
+    fails "$list examples/sheet.yaml > /dev/full 2> /dev/full"
+    passes "cp examples/sheet.yaml \$'n\\xff.yaml' && $list \$'n\\xff.yaml'"
     fails "$list examples/sheet.yaml >&-"
     fails "$list examples/sheet.yaml 1< /dev/null"
     fails "head -c 1048577 /dev/zero | $list /dev/stdin"
     passes "head -c 3000000 /dev/zero | $list /dev/stdin | grep -q 'refused (1)'"
+    case $list in */list-*) fails "yes 'a: b' | head -c 1000000 > large.yaml; ulimit -v 60000; $list large.yaml"; said "no memory" ;; esac
 done
 
 # a benchmark whose programs only say that they ran

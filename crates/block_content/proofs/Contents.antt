@@ -14,7 +14,7 @@ use Rattle.yaml_text.specs.Mark.{along, break-length, here, new-line, skip-brea
 use Rattle.yaml_text.specs.Mark as definition
 use Rattle.yaml_text.specs.Test.{both-true, by-test, true-false}
 use Rattle.yaml_text.specs.Utf8.{chars, encode}
-use Rattle.yaml_lexeme.specs.Block.{Between, Layout, behind, between, inside, lines-on, margin, opens-content, separator}
+use Rattle.yaml_lexeme.specs.Block.{BetweenLines, Layout, behind, between, inside, lines-on, margin, opens-content, separator}
 use Rattle.yaml_text.specs.PlaceLaws.{fits-left, run-of-fit}
 use Rattle.chars.specs.declared.mark.Place.{Place}
 use Rattle.chars.specs.View.{Moves, view}
@@ -26,7 +26,7 @@ use Rattle.block_content.specs.declared.Between.the-variants.{Ahead, Beh
 use Rattle.block_content.specs.declared.Content.{Content}
 use Rattle.block_content.specs.declared.Layout.{Layout as CodeLayout}
 use Rattle.block_header.specs.declared.margin.Margin.{Margin}
-use Rattle.block_content.specs.Content.{LineEnd, Opens, Reads, Rests, Settles, layout-of, line-at, line-of, lines-of, more-of, opens-at, own-of}
+use Rattle.block_content.specs.Content.{LineEnd, OpensContent, Reads, Rests, Settles, layout-of, line-at, line-of, lines-of, more-of, opens-at, own-of}
 use Rattle.block_content.specs.Lines.{before-lines, behind-line, content-line, content-stop, inside-break, inside-end, line-ends, line-here, lines-from, margin-runs}
 use Rattle.block_header.specs.Margin.{Margins, margin-ends, margin-goes}
 use Rattle.reading.specs.Puts.{Puts, puts-then}
@@ -70,7 +70,7 @@ inside-behind b w p h =
     (λ e. rw (e, behind-line) (inside-skip b w p (h e) ∙ margin-runs b (behind w) (behind-on w) 0 (s .mark) (s .rest)))
 
 -- over one line
-line-before : (b : Layout) (l : Between) (p : definition.Place) → margin-goes (b .column) (p .mark) (peek (p .rest) 0) ≡ false
+line-before : (b : Layout) (l : BetweenLines) (p : definition.Place) → margin-goes (b .column) (p .mark) (peek (p .rest) 0) ≡ false
     → (eqb (p .mark .col) (b .column) && opens-content (p .mark) (p .rest)) ≡ true
     → lines-from b (between l) p ≡ before-lines (line-here b l p .text) (lines-from b (between (line-here b l p .line)) (line-here b l p .place))
 line-before b l p e f =
@@ -134,7 +134,7 @@ line-fewer m (c ∷ cs) h =
     rw (line-more m c cs e) (let k = fits-left (run-of-fit in-line (along m) cs) in omega arith)
 
 -- a content line: its separator, its text, and what is behind it
-module _ {text : List ℕ} {b : CodeLayout} {c : Content} {e : Place} (o : Opens text b c)
+module _ {text : List ℕ} {b : CodeLayout} {c : Content} {e : Place} (o : OpensContent text b c)
     (s : Spans text (c .place) e (line (c .place .mark) (chars (drop (c .place .at) text)))) where
   pub line-onward : c .place .at < e .at
   line-onward =
@@ -188,7 +188,7 @@ going-more {text} {b = b} {k = k} {l = l} g o e t =
     let y = line-at text b k in
     let v = line-before (layout-of b) (line-of (k .line)) (view text (k .place)) (g .settles .settled) o in
     let u : lines-of text b l ≡ lines-from (layout-of b) (between (y .line)) (y .place) =
-    ap (λ (x : Between). lines-from (layout-of b) (between x) (view text (l .place))) (t .line) ∙ ap (lines-from (layout-of b) (between (y .line))) (t .place) in
+    ap (λ (x : BetweenLines). lines-from (layout-of b) (between x) (view text (l .place))) (t .line) ∙ ap (lines-from (layout-of b) (between (y .line))) (t .place) in
     record { size = e ∙ g .size; wrote = wrote-more (g .wrote) (t .puts) (v ∙ ap (before-lines (y .text)) (sym u)); settles = t .settles }
 
 pub going-done : {text before out : List ℕ} {b : CodeLayout} {c k : Content} → Going text b before c out k → opens-at text b k ≡ false

@@ -27,7 +27,7 @@ use Rattle.reading.specs.Puts.{Puts}
 abbrev pub layout-of : Layout → definition.Layout
 layout-of b = record { literal = b .literal; chomping = b .chomping; column = b .column }
 
-unfoldable pub line-of : Between → definition.Between
+unfoldable pub line-of : Between → definition.BetweenLines
 line-of (Ahead n) = ahead n
 line-of (Behind w n) = behind w n
 
@@ -66,7 +66,7 @@ pub record Settles (text : List ℕ) (b : Layout) (c : Content) : Type 0 where
 abbrev pub opens-at : List ℕ → Layout → Content → Bool
 opens-at text b c = eqb (c .place .mark .col) (b .column) && opens-content (c .place .mark) (chars (drop (c .place .at) text))
 
-pub record Opens (text : List ℕ) (b : Layout) (c : Content) : Type 0 where
+pub record OpensContent (text : List ℕ) (b : Layout) (c : Content) : Type 0 where
   pub settles : Settles text b c
   pub opens : opens-at text b c ≡ true
 

@@ -14,7 +14,7 @@ use Rattle.yaml_text.specs.Test.{by-test, true-false}
 use Rattle.block_header.specs.Margin.{margin-goes}
 use Rattle.yaml_lexeme.specs.declared.Chomping.{Chomping}
 use Rattle.yaml_lexeme.specs.declared.Chomping.the-variants.{Clip, Keep, Strip}
-use Rattle.yaml_lexeme.specs.Block.{Between, ContentTurn, Layout, Line, after-content, ahead, behind, between, chomped, content, content-end, content-stops, content-turn, inside, lines-after, lines-on, margin, opening-turn, opens-content, own-break, separator, writes}
+use Rattle.yaml_lexeme.specs.Block.{BetweenLines, ContentTurn, Layout, Line, after-content, ahead, behind, between, chomped, content, content-end, content-stops, content-turn, inside, lines-after, lines-on, margin, opening-turn, opens-content, own-break, separator, writes}
 use Rattle.yaml_lexeme.specs.Turns.{content-turned, margin-more, margin-stop}
 use Rattle.gaps.specs.Breaks.{Breaks, none, one, two}
 use Rattle.gaps.specs.Line.{line, line-more, line-stop}
@@ -26,14 +26,14 @@ content-from b l p = content b l (p .mark) (p .rest)
 -- the content without its end: its text, what is pending behind it, and the place there
 pub record ContentLines : Type 0 where
   pub text : List ℕ
-  pub line : Between
+  pub line : BetweenLines
   pub place : Place
 
 abbrev pub before-lines : List ℕ → ContentLines → ContentLines
 before-lines t y = record { text = t ++ y .text; line = y .line; place = y .place }
 
 -- at the text's end, in a line without a break, nothing is pending, as before the first line
-abbrev pub pending-at : Line → Between
+abbrev pub pending-at : Line → BetweenLines
 pending-at (between l) = l
 pending-at (inside w) = ahead 0
 
@@ -128,23 +128,23 @@ line-ends m (c ∷ cs) h =
     (λ e. rw (line-more m c cs e) (line-ends (along m) cs (rw (line-more m c cs e) at h)))
 
 -- a turn between content lines
-between-turn : (b : Layout) (l : Between) (m : Mark) (c : ℕ) (cs : List ℕ)
+between-turn : (b : Layout) (l : BetweenLines) (m : Mark) (c : ℕ) (cs : List ℕ)
     → content-lines b (between l) m (c ∷ cs)
     ≡ after-lines (opening-turn b l m c cs) (λ l'. content-lines b l' (over m c (peek cs 0)) cs) (lines-end (between l) (here m (c ∷ cs)))
 unfolding content-turn
 between-turn b l m c cs = lines-turned b (between l) m c cs
 
-opening-goes : (b : Layout) (l : Between) (m : Mark) (c : ℕ) (cs : List ℕ) → margin-goes (b .column) m c ≡ true
+opening-goes : (b : Layout) (l : BetweenLines) (m : Mark) (c : ℕ) (cs : List ℕ) → margin-goes (b .column) m c ≡ true
     → opening-turn b l m c cs ≡ writes [] (between (lines-on (ends-line c (peek cs 0)) l))
 unfolding opening-turn
 opening-goes b l m c cs e = rw (e, opening-turn)
 
-opening-stops : (b : Layout) (l : Between) (m : Mark) (c : ℕ) (cs : List ℕ) → margin-goes (b .column) m c ≡ false
+opening-stops : (b : Layout) (l : BetweenLines) (m : Mark) (c : ℕ) (cs : List ℕ) → margin-goes (b .column) m c ≡ false
     → (eqb (m .col) (b .column) && opens-content m (c ∷ cs)) ≡ false → opening-turn b l m c cs ≡ content-stops
 unfolding opening-turn
 opening-stops b l m c cs e f = rw (e, f, opening-turn)
 
-opening-opens : (b : Layout) (l : Between) (m : Mark) (c : ℕ) (cs : List ℕ) → margin-goes (b .column) m c ≡ false
+opening-opens : (b : Layout) (l : BetweenLines) (m : Mark) (c : ℕ) (cs : List ℕ) → margin-goes (b .column) m c ≡ false
     → (eqb (m .col) (b .column) && opens-content m (c ∷ cs)) ≡ true
     → opening-turn b l m c cs ≡ writes (separator (b .literal) (is-blank c) l ++ (c ∷ [])) (inside (is-blank c))
 unfolding opening-turn
@@ -155,7 +155,7 @@ no-break true b e = true-false e
 no-break false b e = e
 
 -- over the margin, from n lines on
-pub margin-runs : (b : Layout) (l : ℕ → Between) → ((k n : ℕ) → lines-on k (l n) ≡ l (n + k)) → (n : ℕ) (m : Mark) (cs : List ℕ)
+pub margin-runs : (b : Layout) (l : ℕ → BetweenLines) → ((k n : ℕ) → lines-on k (l n) ≡ l (n + k)) → (n : ℕ) (m : Mark) (cs : List ℕ)
     → content-lines b (between (l n)) m cs ≡ lines-from b (between (l (margin (b .column) n m cs .breaks))) (margin (b .column) n m cs .place)
 unfolding margin
 margin-runs b l on n m [] = refl
@@ -166,7 +166,7 @@ margin-runs b l on n m (c ∷ cs) =
     (between-turn b (l n) m c cs ∙ rw (opening-goes b (l n) m c cs e, on k n) (margin-runs b l on (n + k) (over m c (peek cs 0)) cs)))
     (λ e. rw (margin-stop (b .column) n m c cs e))
 
-module _ (b : Layout) (l : Between) where
+module _ (b : Layout) (l : BetweenLines) where
   -- where no content line opens
   pub content-stop : (m : Mark) (cs : List ℕ) → margin-goes (b .column) m (peek cs 0) ≡ false
       → (eqb (m .col) (b .column) && opens-content m cs) ≡ false → content-lines b (between l) m cs ≡ lines-end (between l) (here m cs)
@@ -201,7 +201,7 @@ behind-line b blank p =
     ]
 
 -- the content line at p, with what stands before it
-abbrev pub line-here : Layout → Between → Place → ContentLines
+abbrev pub line-here : Layout → BetweenLines → Place → ContentLines
 line-here b l p =
     let blank = is-blank (peek (p .rest) 0) in
     let e = line (p .mark) (p .rest) in

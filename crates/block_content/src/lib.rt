@@ -8,7 +8,7 @@ ghost use Rattle.yaml_text.specs.Utf8.{chars};
 ghost use Rattle.yaml_lexeme.specs.Block.{opens-content, separator};
 ghost use Rattle.yaml_lexeme.specs.Block as definition;
 ghost use Rattle.reading.specs.Puts.{Puts};
-ghost use Rattle.block_content.specs.Content.{LineEnd, Opens, Reads, Rests, Settles, behind-breaks, first-of, line-at, line-of, lines-of, more-of, own-of, pending};
+ghost use Rattle.block_content.specs.Content.{LineEnd, OpensContent, Reads, Rests, Settles, behind-breaks, first-of, line-at, line-of, lines-of, more-of, own-of, pending};
 use block_header::margin::Margin;
 use block_header::margin::skip_margin;
 use chars::class::is_blank;
@@ -115,7 +115,7 @@ fn after_line(text: &[u8], b: Layout, blank: bool, e: Place, count: usize) -> Co
 
 // A content line, past its break and the margin behind it.
 fn content_line(text: &[u8], b: Layout, c: Content, out: &mut [u8]) -> Content
-    requires { ⌜ Opens (now text) b c ⌝ }
+    requires { ⌜ OpensContent (now text) b c ⌝ }
     ensures { λ r. ⌜ Reads (now (text .entry)) b (now (out .entry)) c (now (out .exit)) r (line-at (now (text .entry)) b c) × (c .place .at < r .place .at) ⌝ }
 {
     let p = c.place;

@@ -16,7 +16,7 @@ use Rattle.yaml_text.specs.Refusal.{got}
 use Rattle.yaml_text.specs.Utf8.{chars, encode}
 use Rattle.yaml_lexeme.specs.declared.Chomping.{Chomping}
 use Rattle.yaml_lexeme.specs.declared.Chomping.the-variants.{Clip, Keep, Strip}
-use Rattle.yaml_lexeme.specs.Block.{Between, ahead, between, chomped, content-end, no-content, one-if}
+use Rattle.yaml_lexeme.specs.Block.{BetweenLines, ahead, between, chomped, content-end, no-content, one-if}
 use Rattle.yaml_lexeme.specs.Record.{laid}
 use Rattle.yaml_lexeme.specs.Token.{kind-bytes, size}
 use Rattle.chars.specs.declared.mark.Place.{Place}
@@ -63,7 +63,7 @@ content-lexed {text} {before} {mid} {after} {n} {j} {c = c} k b g f x y z w =
     let t : Puts mid (c .count) after n (chomped (b .chomping) last (between (line-of (c .line)))) = rw e (puts-breaks j w) in
     let v = lines-of text b (first-of g) in
     let l = content-with-end (layout-of b) (between (ahead (g .breaks))) m (chars (drop (g .place .at) text))
-    ∙ ap (λ (q : Between). before-run (v .text) (content-end (layout-of b) (between q) (v .place))) (sym (x .line))
+    ∙ ap (λ (q : BetweenLines). before-run (v .text) (content-end (layout-of b) (between q) (v .place))) (sym (x .line))
     ∙ ap (λ (p : definition.Place). before-run (v .text) (content-end (layout-of b) (between (line-of (c .line))) p)) (sym (x .place)) in
     rw l (scalar-lexed k m f (puts-then (x .puts) t) refl (s .stands) (omega (arith, s .few, y .1, w .1)) (omega (arith, s .few)) (s .short))
 

@@ -25,7 +25,7 @@ use Rattle.chars.specs.Reach.{reach-one}
 use Rattle.chars.specs.View.{Moves, Stands, past, view}
 use Rattle.reading.specs.declared.Reached.{Reached}
 use Rattle.reading.specs.declared.Reached.the-variants as reached
-use Rattle.reading.specs.Reading.{Reaches, seen-place}
+use Rattle.reading.specs.Reading.{ReachesAs, seen-place}
 use Rattle.stacks.specs.declared.indent.Indents.{Indents}
 use Rattle.stacks.specs.Indent.{Low}
 use Rattle.events.specs.declared.Counts.{Counts}
@@ -60,7 +60,7 @@ second p = past p 1 (along (p .mark))
 
 -- what is reached from there, over blanks and a comment
 abbrev pub Past : List ℕ → Place → Reached → Type 0
-Past text p r = Reaches text (second p) r (blanks-and-comment (view text (second p)))
+Past text p r = ReachesAs text (second p) r (blanks-and-comment (view text (second p)))
 
 module _ {text : List ℕ} {p : Place} (h : Stands text p) (b : OneByte text p) where
   moved : Moves text p (second p) (skip-by 1 (view text p))

@@ -22,7 +22,7 @@ use Rattle.stacks.proofs.Entries.{entries-push}
 use Rattle.stacks.proofs.Frames.{frames-stay-same}
 use Rattle.stacks.proofs.Rolls.{stack-got}
 use Rattle.states.specs.declared.State.{State}
-use Rattle.brackets.specs.Words.{Fits, StacksBracket, bracket-indents, stacks-entry}
+use Rattle.brackets.specs.Words.{EntryFits, StacksBracket, bracket-indents, stacks-entry}
 
 -- the code's test
 
@@ -52,7 +52,7 @@ module _ (limits : Limits) (x : definition.State) where
 
 -- what the code stacks
 
-module _ {limits : Limits} {entry : Bool} {a : List ℕ} {s : State} (h : Fits limits entry a s) where
+module _ {limits : Limits} {entry : Bool} {a : List ℕ} {s : State} (h : EntryFits limits entry a s) where
   pub entry-fits : entry ≡ true → s .indents .depth < limits .entries
   entry-fits q = leb-false (limits .entries) (s .indents .depth) (rw q at (h .room))
 

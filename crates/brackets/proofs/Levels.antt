@@ -1,5 +1,5 @@
 -- What the definition's three rules come to: they emit the token from a state whose level was opened, was closed, or has a new entry.
-use Prim.Native.Nat.{_+_, _-_, _<_, _≤_, suc, zero, ℕ}
+use Prim.Native.Nat.{_+_, _-_, _<_, _≤_, suc, ℕ}
 use mathlib.Core.Bool.{Bool, Bool·beq, _&&_, false, not, true}
 use mathlib.Core.List.{List, _∷_}
 use mathlib.Core.Path.{_∙_, _≡_, ap, refl, sym}
@@ -23,7 +23,7 @@ use Rattle.chars.specs.View.{Stands}
 use Rattle.reading.specs.declared.Reached.{Reached}
 use Rattle.reading.specs.declared.Reached.the-variants.{Refused}
 use Rattle.stacks.specs.declared.indent.Indents.{Indents}
-use Rattle.stacks.specs.Frame.{SetsKey, SetsLevel, frame-keys, frame-levels, level-of, with-level}
+use Rattle.stacks.specs.Frame.{SetsKey, SetsLevel, frame-keys, frame-levels, level-of, levels-length, with-level}
 use Rattle.stacks.specs.Stack.{entry-words}
 use Rattle.stacks.proofs.Entries.{entries-length, entries-stay-then}
 use Rattle.stacks.proofs.Levels.{keys-opened, levels-first, levels-opened}
@@ -36,11 +36,6 @@ use Rattle.brackets.specs.Emit.{emit-bracket}
 use Rattle.brackets.specs.Words.{OpensLevel, StacksBracket, bracket-indents, bracket-words, comma-words, stacks-entry}
 use Rattle.brackets.proofs.Emitted.{Past, emits-refused}
 use Rattle.brackets.proofs.Entry.{stacks-full, stacks-room}
-
-levels-count : (a : List ℕ) (d : ℕ) → length (frame-levels a d) ≡ d
-unfolding frame-levels
-levels-count a zero = refl
-levels-count a (suc d) = ap suc (levels-count a d)
 
 -- a level that is opened
 pub opens-level : {a b e : List ℕ} {l m : Level} (level : ℕ) → SetsKey a b (level + 1) Absent → SetsLevel b e (level + 1) m → m ≡ l → OpensLevel a e level l
@@ -97,13 +92,13 @@ module _ (limits : Limits) (sequence : Bool) (text a : List ℕ) (count : ℕ) (
     pub start-deep : limits .levels ≤ s .«flow_level» → fetch-flow-collection-start limits sequence x ≡ refused 28 (s .place .mark)
     unfolding fetch-flow-collection-start has-level-room need _>>=_
     start-deep l =
-        rw (stacks-room limits (save-key x) entry tested (counted h), saved-levels x, levels-count a (s .«flow_level»), le-ltb (s .«flow_level») (limits .levels) l, saved-place x)
+        rw (stacks-room limits (save-key x) entry tested (counted h), saved-levels x, levels-length a (s .«flow_level»), le-ltb (s .«flow_level») (limits .levels) l, saved-place x)
 
     pub start-emits : s .«flow_level» < limits .levels → fetch-flow-collection-start limits sequence x
         ≡ emit-bracket (pick sequence FlowSequenceStart FlowMappingStart) false false (opened-from sequence entry (save-key x))
     unfolding fetch-flow-collection-start has-level-room need _>>=_ emit-bracket
     start-emits l =
-        let o : length (save-key x .levels) ≡ s .«flow_level» = rw (saved-levels x) (levels-count a (s .«flow_level»)) in
+        let o : length (save-key x .levels) ≡ s .«flow_level» = rw (saved-levels x) (levels-length a (s .«flow_level»)) in
         rw (stacks-room limits (save-key x) entry tested (counted h), o, lt-ltb (s .«flow_level») (limits .levels) l)
 
     pub start-refused : {r : Reached} {f : Refusal} → s .«flow_level» < limits .levels → Stands text (s .place) → OneByte text (s .place) → Past text (s .place) r → r ≡ Refused f

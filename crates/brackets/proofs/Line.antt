@@ -17,7 +17,7 @@ use Rattle.chars.specs.View.{Stands, view}
 use Rattle.gaps.specs.Answers.{reaches-to}
 use Rattle.gaps.proofs.Laws.{blank-done, comment-none}
 use Rattle.reading.specs.declared.Reached.the-variants.{To}
-use Rattle.reading.specs.Reading.{Reaches}
+use Rattle.reading.specs.Reading.{ReachesAs}
 
 neither : (a b : Bool) → (a || b) ≡ false → (a ≡ false) × (b ≡ false)
 neither true b e = true-false e
@@ -25,7 +25,7 @@ neither false b e = (refl, e)
 
 -- by the byte b there
 pub reaches-here : {text : List ℕ} {p : Place} {b : ℕ} {blank : Bool} → Stands text p → b ≡ getD text (p .at) 0 → blank ≡ is-blank b → (blank || eqb b '#') ≡ false
-    → Reaches text p (To p) (blanks-and-comment (view text p))
+    → ReachesAs text p (To p) (blanks-and-comment (view text p))
 unfolding blanks-and-comment
 reaches-here {text} {p} {b} {blank} h e f n =
     let o = neither blank (eqb b '#') n in

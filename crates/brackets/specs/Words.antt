@@ -44,7 +44,7 @@ abbrev pub comma-words : List ℕ → State → List ℕ
 comma-words a s = put-level (removed-words a s) (s .«flow_level») (new-level (level-of a (s .«flow_level») .sequence))
 
 -- what `stack_bracket` asks for: there is room for the entry, if one is to be stacked
-pub record Fits (limits : Limits) (entry : Bool) (a : List ℕ) (s : State) : Type 0 where
+pub record EntryFits (limits : Limits) (entry : Bool) (a : List ℕ) (s : State) : Type 0 where
   pub room : (entry && leb (limits .entries) (s .indents .depth)) ≡ false
   pub low : Low (limits .entries) (s .indents)
   pub lent : Lent limits a

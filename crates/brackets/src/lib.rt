@@ -7,14 +7,14 @@ ghost use Rattle.yaml_lexeme.specs.declared.Kind.the-variants as kind;
 ghost use Rattle.yaml_lexeme.specs.Gap.{blanks-and-comment};
 ghost use Rattle.yaml_scan.specs.Bracket.{fetch-flow-collection-end, fetch-flow-collection-start, fetch-flow-entry, new-level};
 ghost use Rattle.chars.specs.View.{Stands, view};
-ghost use Rattle.reading.specs.Reading.{Reaches};
+ghost use Rattle.reading.specs.Reading.{ReachesAs};
 ghost use Rattle.stacks.specs.Stack.{stack-words};
 ghost use Rattle.events.specs.declared.Counts as counts;
 ghost use Rattle.states.specs.Brief.{brief-fetched};
 ghost use Rattle.states.specs.Fetch.{FetchesQuiet, OneByte, Ready};
 ghost use Rattle.states.specs.State.{state-of};
 ghost use Rattle.brackets.specs.Emit.{goes-past, s-past};
-ghost use Rattle.brackets.specs.Words.{Fits, OpensLevel, StacksBracket, bracket-words, comma-words, stacks-entry};
+ghost use Rattle.brackets.specs.Words.{EntryFits, OpensLevel, StacksBracket, bracket-words, comma-words, stacks-entry};
 use chars::class::is_blank;
 use chars::mark::Place;
 use events::Counts;
@@ -35,6 +35,7 @@ use yaml_lexeme::Kind;
 use yaml_lexeme::Token;
 use yaml_scan::Level;
 use yaml_scan::Limits;
+use yaml_text::Mark;
 
 // A fresh entry of a level.
 fn new_level(sequence: bool) -> Level
@@ -63,7 +64,7 @@ fn past_bracket(s: State, p: Place, closes: bool) -> State
 // The blanks and comment here; at once where neither begins.
 fn rest_of_line(text: &[u8], start: Place) -> Reached
     requires { ⌜ Stands (now text) start ⌝ }
-    ensures { λ r. ⌜ Reaches (now (text .entry)) start r (blanks-and-comment (view (now (text .entry)) start)) ⌝ }
+    ensures { λ r. ⌜ ReachesAs (now (text .entry)) start r (blanks-and-comment (view (now (text .entry)) start)) ⌝ }
 {
     let from = start.at;
     let c = byte(text, from);
@@ -79,7 +80,12 @@ fn past(s: State, pair: bool, kind: Kind, next: Place, closes: bool) -> Brief
     ensures { λ r. ⌜ r ≡ goes-past s pair kind next closes ⌝ }
 {
     let start = s.place.mark;
-    let end = next.mark;
+    let m = next.mark;
+    let end = Mark {
+        index: m.index,
+        line: m.line,
+        col: m.col,
+    };
     let t = Token {
         kind: kind,
         start: start,
@@ -105,7 +111,7 @@ fn needs_entry(s: State, stacks: &[u32]) -> bool
 
 // The indents behind the bracket: a non-ending entry with indent + 1 is stacked, or none.
 fn stack_bracket(limits: Limits, entry: bool, s: State, stacks: &mut [u32]) -> Indents
-    requires { ⌜ Fits limits entry (now stacks) s ⌝ }
+    requires { ⌜ EntryFits limits entry (now stacks) s ⌝ }
     ensures { λ r. ⌜ StacksBracket limits entry (now (stacks .entry)) (now (stacks .exit)) s r ⌝ }
 {
     let i = s.indents;

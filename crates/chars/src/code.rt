@@ -13,6 +13,14 @@ pub const DOUBLE_QUOTE: u32 = b'"' as u32;
 
 pub const HASH: u32 = b'#' as u32;
 
+pub const PERCENT: u32 = b'%' as u32;
+
+pub const AMPERSAND: u32 = b'&' as u32;
+
+pub const SINGLE_QUOTE: u32 = b'\'' as u32;
+
+pub const ASTERISK: u32 = b'*' as u32;
+
 pub const COMMA: u32 = b',' as u32;
 
 pub const DASH: u32 = b'-' as u32;
@@ -29,7 +37,11 @@ pub const SEMICOLON: u32 = b';' as u32;
 
 pub const EQUALS: u32 = b'=' as u32;
 
+pub const GREATER: u32 = b'>' as u32;
+
 pub const QUESTION: u32 = b'?' as u32;
+
+pub const AT_SIGN: u32 = b'@' as u32;
 
 pub const UPPER_A: u32 = b'A' as u32;
 
@@ -52,6 +64,8 @@ pub const BACKSLASH: u32 = b'\\' as u32;
 pub const CLOSE_BRACKET: u32 = b']' as u32;
 
 pub const UNDERSCORE: u32 = b'_' as u32;
+
+pub const BACKTICK: u32 = b'`' as u32;
 
 pub const LOWER_A: u32 = b'a' as u32;
 
@@ -76,6 +90,8 @@ pub const LOWER_X: u32 = b'x' as u32;
 pub const LOWER_Z: u32 = b'z' as u32;
 
 pub const OPEN_BRACE: u32 = b'{' as u32;
+
+pub const BAR: u32 = b'|' as u32;
 
 pub const CLOSE_BRACE: u32 = b'}' as u32;
 

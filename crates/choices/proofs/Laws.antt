@@ -95,12 +95,12 @@ module _ (text : List ℕ) (s : State) {c : ℕ} (is : c ≡ peek (ahead text s)
   at-marker some e = defined text s (rw (← is, ne-eqb c 0 some, e))
 
 -- neither the end nor a document marker stands here
-pub record Passed (text : List ℕ) (s : State) (c : ℕ) : Type 0 where
+pub record NoMarkerHere (text : List ℕ) (s : State) (c : ℕ) : Type 0 where
   pub is : c ≡ peek (ahead text s) 0
   pub some : c ≡ 0 → ⊥
   pub no-marker : is-marker (s .place .mark) (ahead text s) ≡ false
 
-module _ {text : List ℕ} {s : State} {c : ℕ} (p : Passed text s c) where
+module _ {text : List ℕ} {s : State} {c : ℕ} (p : NoMarkerHere text s c) where
   pub at-directive : (outside s && eqb c '%') ≡ true → AsDefined text s (λ t. choice t) AtDirective
   unfolding choice-before is-z
   at-directive e = defined text s (rw (← p .is, ne-eqb c 0 (p .some), p .no-marker, e))

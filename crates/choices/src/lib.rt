@@ -1,4 +1,3 @@
 // K3: the way to the next token, and which lexeme stands there.
 pub mod advance;
 pub mod choice;
-mod code;

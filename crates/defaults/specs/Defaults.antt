@@ -13,7 +13,7 @@ use Rattle.yaml_text.specs.Utf8.{by-len, char-if, first, four, is-scalar, is-ta
 use Rattle.yaml_scan.specs.declared.Limits.{Limits}
 use Rattle.yaml_scan.specs.State.{Event, State}
 use Rattle.yaml_scan.specs.Scan.{begin}
-use Rattle.yaml_scan.specs.Runs.{Reaches, here, then-step}
+use Rattle.yaml_scan.specs.Runs.{StepsReach, here, then-step}
 use Rattle.yaml_text.specs.All.{all-got}
 use Rattle.yaml_stream.specs.Here.{Levelled, step-levelled}
 
@@ -54,6 +54,6 @@ unfolding first
 first-not-end a t = len-not-end (len-of a) a (getD t 0 0) (getD t 1 0) (getD t 2 0)
 
 -- in every state that a run reaches there is a candidate, or none, for each level and for the outermost: `top-key` is asked of no empty list
-pub reached-levelled : {limits : Limits} {es : List Event} {t : State} (cs : List ℕ) → Reaches limits (begin cs) es t → Levelled (t .keys) (t .levels)
+pub reached-levelled : {limits : Limits} {es : List Event} {t : State} (cs : List ℕ) → StepsReach limits (begin cs) es t → Levelled (t .keys) (t .levels)
 reached-levelled cs here = refl
 reached-levelled {limits} cs (then-step {t = t} r e) = all-got (step-levelled limits t (reached-levelled cs r)) e

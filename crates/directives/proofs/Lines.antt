@@ -27,14 +27,14 @@ use Rattle.reading.specs.declared.Reached.the-variants as reached
 use Rattle.reading.specs.declared.Reading.{Reading}
 use Rattle.reading.specs.declared.Reading.the-variants.{Got, Refused}
 use Rattle.reading.specs.Answers.{TextsIn, behind-first, first-char, lexes-cleared, lexes-refused}
-use Rattle.reading.specs.Reading.{Behind, Clears, Indicated, Lexes, Reaches, Seen, bytes-after, first-at, laid-read, seen}
+use Rattle.reading.specs.Reading.{Behind, Clears, Indicated, Lexes, ReachesAs, Seen, bytes-after, first-at, laid-read, seen}
 use Rattle.gaps.specs.Answers.{reached-refused, reached-to}
 use Rattle.runs.specs.RunLaws.{span-none, span-some}
 use Rattle.directives.specs.Line.{LineEnds, line-rest}
 use Rattle.directives.specs.Name.{name-in}
 
 -- the line's rest, as code reads it
-module _ {text : List ℕ} (start : Mark) {l : Lexeme} {x : Reached} {r : Reading} (w : Reaches text (l .next) x (blanks-and-comment (view text (l .next)))) where
+module _ {text : List ℕ} (start : Mark) {l : Lexeme} {x : Reached} {r : Reading} (w : ReachesAs text (l .next) x (blanks-and-comment (view text (l .next)))) where
   pub ends-refused : {f : Refusal} → x ≡ reached.Refused f → r ≡ Refused f → LineEnds text start l r
   unfolding line-rest seen _>>=_
   ends-refused e g = rw g (record { same = sym (rw (reached-refused w e)); ahead = tt })

@@ -31,7 +31,7 @@ use Rattle.reading.specs.declared.Reached.the-variants as reached
 use Rattle.reading.specs.declared.Reading.{Reading}
 use Rattle.reading.specs.declared.Reading.the-variants as reading
 use Rattle.reading.specs.Answers.{lexes-refused}
-use Rattle.reading.specs.Reading.{Given, Lexes, seen, text-size}
+use Rattle.reading.specs.Reading.{ReaderGiven, Lexes, seen, text-size}
 use Rattle.runs.specs.declared.Run.{Run}
 use Rattle.runs.specs.declared.Run.the-variants.{Refused, To}
 use Rattle.runs.specs.Run.{Writes}
@@ -103,7 +103,7 @@ module _ (start : Mark) {text before after : List ℕ} {p q : Place} {n : ℕ} {
     prefix-followed i j y g = holds-refused g (is-followed start (view text p) (ran prefix-read i .is) (rw (← j) y)) (z ∙ rw l)
 
   module _ {e : Place} {k c used : ℕ} {v : Reading} (i : r ≡ To e k) (l : c ≡ peek (chars (drop (e .at) text)) 0) where
-    pub prefix-ended : {a b : Text} {x : ℕ} → Given text start used → n ≤ p .at → 1 ≤ p .at → is-blank-or-breakz c ≡ true
+    pub prefix-ended : {a b : Text} {x : ℕ} → ReaderGiven text start used → n ≤ p .at → 1 ≤ p .at → is-blank-or-breakz c ≡ true
         → a ≡ record { at = used; len = n % 2 ^ 32 } → x ≡ n % 2 ^ 32 → b ≡ record { at = used + x; len = (k - n) % 2 ^ 32 }
         → v ≡ reading.Got (record { token = record { kind = kind.TagDirective a b; start = start; end = e .mark }; next = e })
         → HoldsTexts kind.TagDirective text before after start used n v (prefix-run start (view text p))

@@ -15,7 +15,7 @@ use Rattle.chars.specs.declared.mark.Place.{Place}
 use Rattle.reading.specs.declared.Reading.{Reading}
 use Rattle.reading.specs.declared.Reading.the-variants.{Got}
 use Rattle.reading.specs.Answers.{word-small}
-use Rattle.reading.specs.Reading.{Given, Lexes, bytes-after, laid-read, seen, text-size}
+use Rattle.reading.specs.Reading.{ReaderGiven, Lexes, bytes-after, laid-read, seen, text-size}
 use Rattle.runs.specs.RunLaws.{Ran}
 use Rattle.directives.specs.Front.{Fronts, HoldsTexts, bytes-behind, held-texts}
 use Rattle.directives.proofs.Spans.{front-behind, front-kept}
@@ -28,7 +28,7 @@ pub record Pairs (one : List ℕ → List ℕ → Kind) (held : Text → Text �
 
 module _ {one : List ℕ → List ℕ → Kind} {held : Text → Text → HeldKind} (pairs : Pairs one held) {text mid after : List ℕ} {start : Mark} {used n : ℕ} {r : Reading} where
   -- by what code answers
-  pub texts-held : {k x : ℕ} {p q : Place} {d e : Read definition.Run} {a b : Text} → Given text start used → n ≤ p .at → 1 ≤ p .at → Ran text mid after p n q k d → e ≡ d
+  pub texts-held : {k x : ℕ} {p q : Place} {d e : Read definition.Run} {a b : Text} → ReaderGiven text start used → n ≤ p .at → 1 ≤ p .at → Ran text mid after p n q k d → e ≡ d
       → a ≡ record { at = used; len = n % 2 ^ 32 } → x ≡ n % 2 ^ 32 → b ≡ record { at = used + x; len = (k - n) % 2 ^ 32 }
       → r ≡ Got (record { token = record { kind = held a b; start = start; end = q .mark }; next = q }) → HoldsTexts held text mid after start used n r e
   unfolding seen held-texts bytes-behind

@@ -32,7 +32,7 @@ use Rattle.chars.specs.Places.{stands-along}
 use Rattle.chars.specs.View.{Moves, Stands, past, view}
 use Rattle.reading.specs.declared.Reading.{Reading}
 use Rattle.reading.specs.declared.Reading.the-variants as reading
-use Rattle.reading.specs.Answers.{Answers, TextsIn, answers-got, answers-refused}
+use Rattle.reading.specs.Answers.{ReaderAnswers, TextsIn, answers-got, answers-refused}
 use Rattle.reading.specs.Reading.{text-size}
 use Rattle.directives.specs.declared.version.Numbered.{Numbered}
 use Rattle.directives.specs.declared.version.Numbered.the-variants.{Got, Refused}
@@ -131,7 +131,7 @@ module _ (start : Mark) {text : List ℕ} {p : Place} {r : Numbered} {c : ℕ} (
 -- the second number
 module _ (start : Mark) (major : ℕ) {text : List ℕ} (p : Place) where
   pub minor-none : {c : ℕ} {r : Reading} → c ≡ getD text (p .at) 0 → (c ≡ dot → ⊥) → r ≡ reading.Refused (record { number = 13; mark = start })
-      → (used : ℕ) → Answers text used r (minor-version start major (view text p))
+      → (used : ℕ) → ReaderAnswers text used r (minor-version start major (view text p))
   unfolding minor-version _>>=_ need
   minor-none {c} b e f used = answers-refused f (rw (ne-char text (p .at) c b dot tt e))
 
@@ -143,13 +143,13 @@ module _ (start : Mark) (major : ℕ) {text : List ℕ} (p : Place) where
     turn = rw (a .next)
 
     pub minor-refused : {f : Refusal} {r : Reading} → n ≡ Refused f → r ≡ reading.Refused f → (used : ℕ)
-        → Answers text used r (minor-version start major (view text p))
+        → ReaderAnswers text used r (minor-version start major (view text p))
     unfolding _>>=_
     minor-refused e g used = answers-refused g (turn ∙ rw (number-refused h e))
 
     pub minor-got : {v : ℕ} {q : Place} {r : Reading} → n ≡ Got v q
         → r ≡ reading.Got (record { token = record { kind = kind.VersionDirective major v; start = start; end = q .mark }; next = q })
-        → (used : ℕ) → Answers text used r (minor-version start major (view text p))
+        → (used : ℕ) → ReaderAnswers text used r (minor-version start major (view text p))
     unfolding _>>=_ laid text-size
     minor-got {v} {q} e g used =
         let k = number-ahead h e in
@@ -164,13 +164,13 @@ module _ (start : Mark) {text : List ℕ} {p q : Place}
 
   pub version-refused : {n : Numbered} {f : Refusal} {r : Reading} → Numbers text q n (version-number start (view text q)) → n ≡ Refused f
       → r ≡ reading.Refused f → (used : ℕ)
-      → Answers text used r (version-directive start (view text p))
+      → ReaderAnswers text used r (version-directive start (view text p))
   unfolding version-directive _>>=_
   version-refused h e g used = answers-refused g (rw (first-read ∙ number-refused h e))
 
   pub version-got : {n : Numbered} {v : ℕ} {e : Place} {r : Reading} {used : ℕ}
-      → Numbers text q n (version-number start (view text q)) → n ≡ Got v e → Answers text used r (minor-version start v (view text e))
-      → Answers text used r (version-directive start (view text p))
+      → Numbers text q n (version-number start (view text q)) → n ≡ Got v e → ReaderAnswers text used r (minor-version start v (view text e))
+      → ReaderAnswers text used r (version-directive start (view text p))
   unfolding version-directive minor-version _>>=_
   version-got h e d = rw (first-read ∙ number-got h e) d
 

@@ -12,7 +12,7 @@ use Rattle.yaml_lexeme.specs.declared.Kind.{Kind}
 use Rattle.yaml_lexeme.specs.declared.Text.{Text}
 use Rattle.yaml_lexeme.specs.Token.{size}
 use Rattle.reading.specs.declared.Reading.{Reading}
-use Rattle.reading.specs.Reading.{Ahead, Seen, seen}
+use Rattle.reading.specs.Reading.{ReadsAhead, Seen, seen}
 
 -- the first text
 pub record Fronts (before mid h : List ℕ) (n : ℕ) : Type 0 where
@@ -37,4 +37,4 @@ bytes-behind before n (refused k m) = replicate (length before) 0
 pub record HoldsTexts (kind : Text → Text → Kind) (text before after : List ℕ) (start : Mark) (used n : ℕ) (r : Reading) (d : Read Run) : Type 0 where
   pub same : seen text r ≡ held-texts kind start used n d
   pub bytes : after ≡ bytes-behind before n d
-  pub ahead : Ahead text r
+  pub ahead : ReadsAhead text r

@@ -10,7 +10,7 @@ use Rattle.yaml_lexeme.specs.Gap.{blanks-and-comment}
 use Rattle.chars.specs.View.{view}
 use Rattle.reading.specs.declared.Lexeme.{Lexeme}
 use Rattle.reading.specs.declared.Reading.{Reading}
-use Rattle.reading.specs.Reading.{Ahead, Seen, seen}
+use Rattle.reading.specs.Reading.{ReadsAhead, Seen, seen}
 
 -- behind a token, and past the line
 unfoldable pub line-rest : Mark → Seen → Read Seen
@@ -21,4 +21,4 @@ line-rest start s = do
 
 pub record LineEnds (text : List ℕ) (start : Mark) (l : Lexeme) (r : Reading) : Type 0 where
   pub same : seen text r ≡ line-rest start (record { token = l .token; place = view text (l .next) })
-  pub ahead : Ahead text r
+  pub ahead : ReadsAhead text r

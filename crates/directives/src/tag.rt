@@ -8,7 +8,7 @@ ghost use Rattle.yaml_text.specs.Class.{is-tag};
 ghost use Rattle.yaml_lexeme.specs.declared.Kind.the-variants.{TagDirective};
 ghost use Rattle.yaml_lexeme.specs.Directive.{tag-directive, tag-handle};
 ghost use Rattle.chars.specs.View.{Stands, view};
-ghost use Rattle.reading.specs.Reading.{Given, Lexes};
+ghost use Rattle.reading.specs.Reading.{ReaderGiven, Lexes};
 ghost use Rattle.directives.specs.Front.{HoldsTexts};
 ghost use Rattle.directives.specs.Tag.{Handles, prefix-run};
 use chars::class::is_blank_or_breakz;
@@ -63,7 +63,7 @@ fn begins_prefix(c: u32) -> bool
 
 // The rest, behind the handle of n bytes, which was written. 18: a bad first character; 19: no blank after the prefix.
 fn read_prefix(text: &[u8], start: Mark, p: Place, n: usize, used: u32, out: &mut [u8]) -> Reading
-    requires { ⌜ Given (now text) start used × Stands (now text) p × (n ≤ p .at) × (1 ≤ p .at) ⌝ }
+    requires { ⌜ ReaderGiven (now text) start used × Stands (now text) p × (n ≤ p .at) × (1 ≤ p .at) ⌝ }
     ensures { λ r. ⌜ HoldsTexts TagDirective (now (text .entry)) (now (out .entry)) (now (out .exit)) start used n r (prefix-run start (view (now (text .entry)) p)) ⌝ }
 {
     let q = skip_blanks(text, p);
@@ -88,7 +88,7 @@ fn read_prefix(text: &[u8], start: Mark, p: Place, n: usize, used: u32, out: &mu
 
 // Behind its name.
 pub fn tag_directive(text: &[u8], start: Mark, p: Place, used: u32, out: &mut [u8]) -> Reading
-    requires { ⌜ Given (now text) start used × Stands (now text) p × (1 ≤ p .at) ⌝ }
+    requires { ⌜ ReaderGiven (now text) start used × Stands (now text) p × (1 ≤ p .at) ⌝ }
     ensures { λ r. ⌜ Lexes (now (text .entry)) (now (out .entry)) (now (out .exit)) used r (tag-directive start (view (now (text .entry)) p)) ⌝ }
 {
     let q = skip_blanks(text, p);

@@ -5,7 +5,7 @@ ghost use lib.ListN.{drop};
 ghost use Rattle.yaml_text.specs.Utf8.{chars};
 ghost use Rattle.yaml_lexeme.specs.Directive.{version-digits, version-directive, version-number};
 ghost use Rattle.chars.specs.View.{Stands, view};
-ghost use Rattle.reading.specs.Answers.{Answers};
+ghost use Rattle.reading.specs.Answers.{ReaderAnswers};
 ghost use Rattle.directives.specs.declared.version.Numbered.the-variants.{Refused};
 ghost use Rattle.directives.specs.Version.{Numbers, minor-version};
 use chars::class::is_digit;
@@ -74,7 +74,7 @@ fn version_number(text: &[u8], start: Mark, p: Place) -> Numbered
 // The rest of a version, behind its first number. 13: no '.'.
 fn minor_version(text: &[u8], start: Mark, major: u32, p: Place) -> Reading
     requires { ⌜ Stands (now text) p × (1 ≤ p .at) ⌝ }
-    ensures { λ r. ⌜ ((used : ℕ) → Answers (now (text .entry)) used r (minor-version start major (view (now (text .entry)) p))) ⌝ }
+    ensures { λ r. ⌜ ((used : ℕ) → ReaderAnswers (now (text .entry)) used r (minor-version start major (view (now (text .entry)) p))) ⌝ }
 {
     let at = p.at;
     if byte(text, at) == b'.' {
@@ -100,7 +100,7 @@ fn minor_version(text: &[u8], start: Mark, major: u32, p: Place) -> Reading
 // Behind its name.
 pub fn version_directive(text: &[u8], start: Mark, p: Place) -> Reading
     requires { ⌜ Stands (now text) p × (1 ≤ p .at) ⌝ }
-    ensures { λ r. ⌜ ((used : ℕ) → Answers (now (text .entry)) used r (version-directive start (view (now (text .entry)) p))) ⌝ }
+    ensures { λ r. ⌜ ((used : ℕ) → ReaderAnswers (now (text .entry)) used r (version-directive start (view (now (text .entry)) p))) ⌝ }
 {
     let major = version_number(text, start, skip_blanks(text, p));
     match major {

@@ -23,14 +23,14 @@ use Rattle.states.specs.declared.State.{State}
 use Rattle.states.specs.Fetch.{FetchesQuiet, Ready}
 use Rattle.states.specs.Key.{removed-words}
 use Rattle.states.specs.State.{state-of}
-use Rattle.documents.specs.Leave.{Leaves, goes-outside}
+use Rattle.documents.specs.Leave.{LeavesBlocks, goes-outside}
 use Rattle.documents.proofs.Leave.{fetch-outside}
 
 textless : Textless ByteOrderMark held-as.ByteOrderMark
 unfolding laid kind-bytes
 textless = record { same = λ used. refl; bytes = refl }
 
-pub bom-goes : {limits : Limits} {text a e : List ℕ} {n : Counts} {s : State} {u : Unrolled} → Ready limits text a s → CharAt text (s .place .at) byte-order-mark 3 → Leaves a e s u
+pub bom-goes : {limits : Limits} {text a e : List ℕ} {n : Counts} {s : State} {u : Unrolled} → Ready limits text a s → CharAt text (s .place .at) byte-order-mark 3 → LeavesBlocks a e s u
     → FetchesQuiet limits text a e (removed-words a s) n s (fetch-byte-order-mark (state-of text a (n .count) s))
     (goes-outside s u (past (s .place) 3 (over-bom (s .place .mark))) (s .«leading_whitespace») true
     (record { kind = held-as.ByteOrderMark; start = s .place .mark; end = over-bom (s .place .mark) }))

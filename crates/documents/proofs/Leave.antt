@@ -29,9 +29,9 @@ use Rattle.states.specs.Fetch.{FetchesQuiet, Ready}
 use Rattle.states.specs.Key.{Removes, removed-words}
 use Rattle.states.specs.State.{s-with-indents, state-of}
 use Rattle.states.proofs.Keys.{key-seen}
-use Rattle.documents.specs.Leave.{Leaves, goes-outside}
+use Rattle.documents.specs.Leave.{LeavesBlocks, goes-outside}
 
-pub leaves : {a e : List ℕ} {s : State} {u : Unrolled} → s .indents .depth ≤ entry-words → Unrolls a 0 (s .indents) u → Removes a e s → Leaves a e s u
+pub leaves : {a e : List ℕ} {s : State} {u : Unrolled} → s .indents .depth ≤ entry-words → Unrolls a 0 (s .indents) u → Removes a e s → LeavesBlocks a e s u
 unfolding leave-blocks remove-key frame-keys
 leaves {s = s} {u} h w k =
     record {
@@ -50,7 +50,7 @@ laid-behind-ends t m used n start end =
     laid-of-closing m _ n ∙ sym (laid-ends start (put _ ∷ []) used n ∙ rw (laid-textless t used start end []))
 
 -- on from p behind such a token, as the definition from q
-pub fetch-outside : {limits : Limits} {text a e : List ℕ} {n : Counts} {s : State} {u : Unrolled} → Ready limits text a s → Leaves a e s u
+pub fetch-outside : {limits : Limits} {text a e : List ℕ} {n : Counts} {s : State} {u : Unrolled} → Ready limits text a s → LeavesBlocks a e s u
     → {k : Kind} {h : held.Kind} → Textless k h → {p : Place} (q : mark.Place) (end : Mark) (leads allowed : Bool) {d : Read News}
     → view text p ≡ q → Stands text p → s .place .at + 1 ≤ p .at
     → d ≡ emit (all-ends (state-of text a (n .count) s) ++ (put (record { kind = k; start = s .place .mark; end = end }) ∷ []))

@@ -34,7 +34,7 @@ use Rattle.chars.specs.Reach.{Reach, more, none}
 use Rattle.chars.specs.View.{Moves, Stands, past, view}
 use Rattle.reading.specs.declared.Reached.{Reached}
 use Rattle.reading.specs.declared.Reached.the-variants as reached
-use Rattle.reading.specs.Reading.{Reaches, seen-place}
+use Rattle.reading.specs.Reading.{ReachesAs, seen-place}
 use Rattle.stacks.specs.declared.indent.Unrolled.{Unrolled}
 use Rattle.events.specs.declared.Counts.{Counts}
 use Rattle.events.specs.Laid.{Textless}
@@ -45,7 +45,7 @@ use Rattle.states.specs.Fetch.{FetchesQuiet, Ready}
 use Rattle.states.specs.Key.{removed-words}
 use Rattle.states.specs.Seen.{in-flow-seen}
 use Rattle.states.specs.State.{state-of}
-use Rattle.documents.specs.Leave.{Leaves, goes-outside}
+use Rattle.documents.specs.Leave.{LeavesBlocks, goes-outside}
 use Rattle.documents.proofs.Leave.{fetch-outside}
 
 -- three characters of one byte
@@ -79,23 +79,23 @@ marker-moves {text} {p} h e = moves-along h 3 3 (marker-reach (p .mark) text (p 
 -- what follows it
 
 module _ {text : List ℕ} {p : Place} {starts : Bool} where
-  pub after-start : starts ≡ true → Stands text p → Reaches text p (reached.To p) (after-marker starts (view text p))
+  pub after-start : starts ≡ true → Stands text p → ReachesAs text p (reached.To p) (after-marker starts (view text p))
   unfolding after-marker seen-place
   after-start e h = record { same = rw (e, after-marker); onward = (h, omega arith) }
 
   module _ (f : starts ≡ false) where
-    pub after-refused : {f : Refusal} → Reaches text p (reached.Refused f) (blanks-and-comment (view text p))
-        → Reaches text p (reached.Refused f) (after-marker starts (view text p))
+    pub after-refused : {f : Refusal} → ReachesAs text p (reached.Refused f) (blanks-and-comment (view text p))
+        → ReachesAs text p (reached.Refused f) (after-marker starts (view text p))
     unfolding after-marker seen-place _>>=_
     after-refused k = record { same = rw (f, after-marker, ← k .same); onward = tt }
 
-    module _ {q : Place} (k : Reaches text p (reached.To q) (blanks-and-comment (view text p))) where
-      pub after-break : is-breakz (look (view text q)) ≡ true → Reaches text p (reached.To q) (after-marker starts (view text p))
+    module _ {q : Place} (k : ReachesAs text p (reached.To q) (blanks-and-comment (view text p))) where
+      pub after-break : is-breakz (look (view text q)) ≡ true → ReachesAs text p (reached.To q) (after-marker starts (view text p))
       unfolding after-marker seen-place _>>=_ need
       after-break b = record { same = rw (f, after-marker, ← k .same, b); onward = k .onward }
 
       pub after-text : is-breakz (look (view text q)) ≡ false
-          → Reaches text p (reached.Refused (record { number = 49; mark = q .mark })) (after-marker starts (view text p))
+          → ReachesAs text p (reached.Refused (record { number = 49; mark = q .mark })) (after-marker starts (view text p))
       unfolding after-marker seen-place _>>=_ need
       after-text b = record { same = rw (f, after-marker, ← k .same, b); onward = tt }
 
@@ -112,7 +112,7 @@ kinds false = record { same = λ used. refl; bytes = refl }
 -- what the definition answers, by what was reached behind the marker
 module _ (text a : List ℕ) (count : ℕ) (s : State) (starts : Bool) where
   begun : {r : Reached} → s .«flow_level» ≤ 0 → Moves text (s .place) (behind-marker (s .place)) (skip-by 3 (view text (s .place)))
-      → Reaches text (behind-marker (s .place)) r (after-marker starts (view text (behind-marker (s .place))))
+      → ReachesAs text (behind-marker (s .place)) r (after-marker starts (view text (behind-marker (s .place))))
       → fetch-document-indicator starts (state-of text a count s)
       ≡ seen-place text r >>= λ p.
       emit (all-ends (state-of text a count s) ++ (put (record { kind = pick starts DocumentStart DocumentEnd; start = s .place .mark; end = along-by 3 (s .place .mark) }) ∷ []))
@@ -127,13 +127,13 @@ module _ {limits : Limits} {text a : List ℕ} {n : Counts} {s : State} (starts 
   marker-flow h = fetch-refused (rw (in-flow-seen text a (n .count) s, lt-ltb 0 (s .«flow_level») h)) refl
 
   module _ (h : s .«flow_level» ≤ 0) (m : Moves text (s .place) (behind-marker (s .place)) (skip-by 3 (view text (s .place)))) where
-    pub marker-refused : {f : Refusal} → Reaches text (behind-marker (s .place)) (reached.Refused f) (after-marker starts (view text (behind-marker (s .place))))
+    pub marker-refused : {f : Refusal} → ReachesAs text (behind-marker (s .place)) (reached.Refused f) (after-marker starts (view text (behind-marker (s .place))))
         → FetchesQuiet limits text a a (removed-words a s) n s (fetch-document-indicator starts (state-of text a (n .count) s)) (Refused f)
     unfolding seen-place _>>=_
     marker-refused v = fetch-refused (begun text a (n .count) s starts h m v) refl
 
     pub marker-goes : {e : List ℕ} {u : Unrolled} {next : Place} → Ready limits text a s
-        → Reaches text (behind-marker (s .place)) (reached.To next) (after-marker starts (view text (behind-marker (s .place)))) → Leaves a e s u
+        → ReachesAs text (behind-marker (s .place)) (reached.To next) (after-marker starts (view text (behind-marker (s .place)))) → LeavesBlocks a e s u
         → FetchesQuiet limits text a e (removed-words a s) n s (fetch-document-indicator starts (state-of text a (n .count) s))
         (goes-outside s u next false false (held-of starts (s .place .mark)))
     unfolding seen-place _>>=_

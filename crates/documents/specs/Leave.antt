@@ -17,7 +17,7 @@ use Rattle.states.specs.Key.{removed-words}
 use Rattle.states.specs.State.{s-moved, s-with-indents, state-of}
 
 -- outside every block, the candidate gone, from the words a to e
-pub record Leaves (a e : List ℕ) (s : State) (u : Unrolled) : Type 0 where
+pub record LeavesBlocks (a e : List ℕ) (s : State) (u : Unrolled) : Type 0 where
   pub words : e ≡ removed-words a s
   pub same : (text : List ℕ) (count : ℕ) → state-of text e count (s-with-indents s (u .indents)) ≡ leave-blocks (state-of text a count s)
   pub ended : u .ended ≡ unroll 0 (s .indents .indent) (entries-of a (s .indents .depth)) .ended

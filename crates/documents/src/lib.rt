@@ -11,13 +11,13 @@ ghost use Rattle.yaml_lexeme.specs.declared.Kind.the-variants as kind;
 ghost use Rattle.yaml_scan.specs.Document.{after-marker, fetch-byte-order-mark, fetch-document-indicator, fetch-stream-end, forced};
 ghost use Rattle.chars.specs.Bytes.{CharAt};
 ghost use Rattle.chars.specs.View.{Stands, view};
-ghost use Rattle.reading.specs.Reading.{Reaches};
+ghost use Rattle.reading.specs.Reading.{ReachesAs};
 ghost use Rattle.stacks.specs.Indent.{Low};
 ghost use Rattle.stacks.specs.Stack.{entry-words, stack-words};
 ghost use Rattle.states.specs.Fetch.{FetchesQuiet, Ready};
 ghost use Rattle.states.specs.Key.{removed-words};
 ghost use Rattle.states.specs.State.{state-of};
-ghost use Rattle.documents.specs.Leave.{Leaves, goes-outside};
+ghost use Rattle.documents.specs.Leave.{LeavesBlocks, goes-outside};
 use chars::class::is_breakz;
 use chars::mark::Place;
 use events::Counts;
@@ -40,7 +40,7 @@ use yaml_text::Mark;
 // Out of every block: how many of them end, and the indents left. The candidate goes.
 pub fn leave_blocks(s: State, stacks: &mut [u32]) -> Unrolled
     requires { ⌜ (s .«flow_level» ≤ 255) × Low entry-words (s .indents) × (stack-words ≤ length (now stacks)) ⌝ }
-    ensures { λ r. ⌜ Leaves (now (stacks .entry)) (now (stacks .exit)) s r ⌝ }
+    ensures { λ r. ⌜ LeavesBlocks (now (stacks .entry)) (now (stacks .exit)) s r ⌝ }
 {
     let u = unroll(stacks, 0, s.indents);
     s.remove_key(stacks);
@@ -85,7 +85,7 @@ pub fn fetch_byte_order_mark(
 // What follows a marker on its line: after `...` blanks or a comment, to the line's end. 49: text.
 fn after_marker(text: &[u8], starts: bool, p: Place) -> Reached
     requires { ⌜ Stands (now text) p ⌝ }
-    ensures { λ r. ⌜ Reaches (now (text .entry)) p r (after-marker starts (view (now (text .entry)) p)) ⌝ }
+    ensures { λ r. ⌜ ReachesAs (now (text .entry)) p r (after-marker starts (view (now (text .entry)) p)) ⌝ }
 {
     if starts {
         return Reached::To(p);

@@ -1,5 +1,5 @@
 -- The loop: the steps that were stored, and what those from here come to, are what all steps come to.
-use Prim.Native.Nat.{_+_, _-_, _<_, _≤_, suc, zero, ℕ}
+use Prim.Native.Nat.{_+_, _-_, _<_, _≤_, suc, ℕ}
 use mathlib.Core.List.{List, [], _++_, append-nil, map}
 use mathlib.Core.Path.{_∙_, _≡_, ap, refl}
 use native.Mathlib.Omega.{arith}
@@ -25,7 +25,7 @@ use Rattle.chars.specs.View.{view}
 use Rattle.rooms.specs.Room.{cleared}
 use Rattle.events.specs.declared.Counts.{Counts}
 use Rattle.events.specs.Event.{laid-events}
-use Rattle.stacks.specs.Frame.{frame-levels}
+use Rattle.stacks.specs.Frame.{levels-length}
 use Rattle.states.specs.declared.State.{State}
 use Rattle.states.specs.Refused.{has-text}
 use Rattle.states.specs.State.{state-of}
@@ -70,11 +70,6 @@ left-front (got x) b used =
     by-pick (λ (z : List ℕ). take used z ≡ take used b) (has-text (choice (counting (unrolled x .ended) (with-indents (unrolled x .indents) x)))) (cleared b used) b (cleared-front b used) refl
 
 -- the flow level is how many levels the definition sees
-
-pub levels-length : (stacks : List ℕ) (d : ℕ) → length (frame-levels stacks d) ≡ d
-unfolding frame-levels
-levels-length stacks zero = refl
-levels-length stacks (suc d) = ap suc (levels-length stacks d)
 
 -- one step of those
 

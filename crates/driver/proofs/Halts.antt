@@ -6,7 +6,7 @@ use mathlib.Core.Path.{_∙_, _≡_, ap, refl, sym}
 use native.Mathlib.Nat.{not-suc-le-zero}
 use native.Mathlib.Omega.{arith}
 use lib.Dec.{eqb, ltb}
-use lib.ListN.{length, set}
+use lib.ListN.{set}
 use borrow.Author.Tests.{eqb-false, eqb-true, le-ltb, lt-ltb, ltb-false, ltb-true, ne-eqb}
 use Rattle.yaml_text.specs.declared.Mark.{Mark}
 use Rattle.yaml_text.specs.Mark.{origin}
@@ -17,17 +17,12 @@ use Rattle.yaml_scan.specs.declared.Candidate.the-variants.{Absent, Possible}
 use Rattle.yaml_stream.specs.Stream.{most-waiting, too-many-wait}
 use Rattle.yaml_stream.specs.Levels.{level-key}
 use Rattle.yaml_stream.specs.Lowest.{names}
-use Rattle.stacks.specs.Frame.{frame-keys, key-of}
+use Rattle.stacks.specs.Frame.{frame-keys, key-of, keys-length}
 use Rattle.events.specs.declared.Counts.{Counts}
 use Rattle.states.specs.declared.State.{State}
 use Rattle.stream_laws.specs.declared.Pending.{Pending}
 use Rattle.stream_laws.specs.Driven.{Halt, crowded, go-on, if-enough, one-by-one, pause, refuse, slots-ahead, test-of, then-pending}
 use Rattle.driver.specs.Held.{level-at, put-counts, put-pending, put-state, put-until}
-
-keys-length : (e : List ℕ) (d : ℕ) → length (frame-keys e d) ≡ d
-unfolding frame-keys
-keys-length e zero = refl
-keys-length e (suc d) = ap suc (keys-length e d)
 
 pub key-open : (e : List ℕ) (l d : ℕ) → l < d → level-key l (frame-keys e d) ≡ key-of e l
 unfolding frame-keys level-key

@@ -43,7 +43,7 @@ pub loaded-drives : {limits : Limits} {text : List ℕ} {s : State} {n : Counts}
 loaded-drives one room h k = rw (k .pending-is, k .state-is, k .base-is, k .counts-is)
 
 -- the words held behind the stacks stay, and all lengths
-pub record Kept (h₀ l₀ b₀ h l b : List ℕ) : Type 0 where
+pub record LengthsKept (h₀ l₀ b₀ h l b : List ℕ) : Type 0 where
   pub behind-kept : drop stack-words h ≡ drop stack-words h₀
   pub held-kept : length h ≡ length h₀
   pub words-kept : length l ≡ length l₀
@@ -59,7 +59,7 @@ until-held h₀ h base w e = until-behind h base w ∙ ap (λ (z : List ℕ). se
 
 -- a refusal behind steps that are stored: the bytes used then stay
 stops-as : {d : Driven} {base : ℕ} {n₀ n : Counts} {l₀ b₀ h₀ h h' l b b' : List ℕ} {w : Pending} {es : List Event} {f : Refusal} → d ≡ stops es w (f .number) (f .mark)
-    → Stored base n₀ n l₀ b₀ l b es → take (n .used) b' ≡ take (n .used) b → Kept h₀ l₀ b₀ h l b' → h' ≡ put-until h base w → StopsAs d base n₀ f h₀ l₀ b₀ h' l b'
+    → Stored base n₀ n l₀ b₀ l b es → take (n .used) b' ≡ take (n .used) b → LengthsKept h₀ l₀ b₀ h l b' → h' ≡ put-until h base w → StopsAs d base n₀ f h₀ l₀ b₀ h' l b'
 stops-as {base = base} {n = n} {h₀ = h₀} {h} {b = b} {w = w} {es} same stored texts k held =
     record {
       said = es;
@@ -91,7 +91,7 @@ module _ {limits : Limits} {text : List ℕ} {test : Test} {d : Driven} {base : 
         by-events : (es : List Event) → step limits x ≡ got (ends-with es) → Stored base n m l b l' b' es → CountsWithin m 1_048_577 → EndsAs d base n₀ m l₀ b₀ l' b'
         by-events es same stored few = record { said = g .said ++ es; same = g .whole ∙ rw same; stored = stored-then low (g .stored) stored; few = few }
 
-    pub driving-stops : {e l' b' h₀ h h' : List ℕ} {f : Refusal} → Kept h₀ l₀ b₀ h l' b' → h' ≡ put-until h base w
+    pub driving-stops : {e l' b' h₀ h h' : List ℕ} {f : Refusal} → LengthsKept h₀ l₀ b₀ h l' b' → h' ≡ put-until h base w
         → StepDone limits text e (step limits x) base n l b (step-left x b (n .used)) l' b' (Refused f) → StopsAs d base n₀ f h₀ l₀ b₀ h' l' b'
     unfolding driven
     driving-stops {l' = l'} {f = f} k held q =
@@ -125,7 +125,7 @@ module _ {limits : Limits} {text : List ℕ} {test : Test} {d : Driven} {base : 
     pub halting-on : {v : Pending} → go-on v ≡ test w level y n → Driving limits text test d base n₀ l₀ b₀ v stacks l b t n
     halting-on q = record { said = a .said; whole = a .whole ∙ rw (← q); stored = a .stored; given = a .given }
 
-    pub halting-stops : {h₀ h h' : List ℕ} {f : Refusal} → Kept h₀ l₀ b₀ h l b → h' ≡ put-until h base w → refuse (f .number) (f .mark) ≡ test w level y n
+    pub halting-stops : {h₀ h h' : List ℕ} {f : Refusal} → LengthsKept h₀ l₀ b₀ h l b → h' ≡ put-until h base w → refuse (f .number) (f .mark) ≡ test w level y n
         → StopsAs d base n₀ f h₀ l₀ b₀ h' l b
     halting-stops k held q = stops-as {n = n} {b = b} {w = w} (a .whole ∙ rw (← q)) (a .stored) refl k held
 
@@ -152,7 +152,7 @@ module _ {limits : Limits} {text : List ℕ} {test : Test} {d : Driven} {base : 
 -- the numbers that were loaded are those that were held
 
 module _ {limits : Limits} (one : Bool) {text : List ℕ} (h l b h' l' b' : List ℕ) {s : State} {n : Counts} {base : ℕ} {w : Pending} (k : Loaded limits text h s n base w) where
-  pub drives-scanned : {m : Counts} → Kept h l b h' l' b' → EndsAs (drives limits one text (length b) h) base n m l b l' b' → Drives limits one text h l b h' l' b' (Scanned m)
+  pub drives-scanned : {m : Counts} → LengthsKept h l b h' l' b' → EndsAs (drives limits one text (length b) h) base n m l b l' b' → Drives limits one text h l b h' l' b' (Scanned m)
   drives-scanned e q = (rw (k .base-is, k .counts-is) at q, e .behind-kept, e .held-kept)
 
   pub drives-stopped : {f : Refusal} → StopsAs (drives limits one text (length b) h) base n f h l b h' l' b' → Drives limits one text h l b h' l' b' (Stopped f)

@@ -12,7 +12,7 @@ use Rattle.yaml_scan.specs.declared.Limits.{Limits}
 use Rattle.yaml_scan.specs.State.{Event}
 use Rattle.yaml_scan.specs.Scan.{step}
 use Rattle.chars.specs.View.{view}
-use Rattle.stacks.specs.Frame.{frame-keys}
+use Rattle.stacks.specs.Frame.{frame-keys, levels-length}
 use Rattle.stacks.specs.Most.{at-most, at-most-fits}
 use Rattle.stacks.specs.Stack.{stack-words}
 use Rattle.events.specs.declared.Counts.{Counts}
@@ -30,12 +30,12 @@ use Rattle.driver.specs.Step.{StepDone}
 use Rattle.driver.proofs.Words.{held-given}
 use Rattle.driver.proofs.Halts.{Fits, HaltFits, test-fits}
 use Rattle.driver.proofs.Driven.{behind-none, counts-are}
-use Rattle.driver.proofs.Driving.{Driving, Halting, all-driven, driving-less, driving-low, driving-on, levels-length}
-use Rattle.driver.proofs.Leaving.{Kept, Loaded, driving-ends, driving-stops, drives-ready, drives-scanned, drives-stopped, halting-asks, halting-fits, halting-on, halting-pauses, halting-stops, loaded-drives, test-at}
+use Rattle.driver.proofs.Driving.{Driving, Halting, all-driven, driving-less, driving-low, driving-on}
+use Rattle.driver.proofs.Leaving.{LengthsKept, Loaded, driving-ends, driving-stops, drives-ready, drives-scanned, drives-stopped, halting-asks, halting-fits, halting-on, halting-pauses, halting-stops, loaded-drives, test-at}
 
 -- where the loop stands
 pub record Looping (limits : Limits) (one : Bool) (text h₀ l₀ b₀ : List ℕ) (base : ℕ) (s₀ : State) (n₀ : Counts) (w₀ : Pending) (h l b : List ℕ) (t : State) (n : Counts) (w : Pending) : Type 0 where
-  pub kept : Kept h₀ l₀ b₀ h l b
+  pub kept : LengthsKept h₀ l₀ b₀ h l b
   pub long : length h ≡ held-words
   pub loaded : Loaded limits text h₀ s₀ n₀ base w₀
   pub low : base ≤ n₀ .count
@@ -44,7 +44,7 @@ pub record Looping (limits : Limits) (one : Bool) (text h₀ l₀ b₀ : List �
 
 -- behind a step that was made from that flow level
 pub record Asking (limits : Limits) (one : Bool) (text h₀ l₀ b₀ : List ℕ) (base : ℕ) (s₀ : State) (n₀ : Counts) (w₀ : Pending) (level : ℕ) (h l b : List ℕ) (t : State) (n : Counts) (w : Pending) : Type 0 where
-  pub kept : Kept h₀ l₀ b₀ h l b
+  pub kept : LengthsKept h₀ l₀ b₀ h l b
   pub long : length h ≡ held-words
   pub loaded : Loaded limits text h₀ s₀ n₀ base w₀
   pub low : base ≤ n₀ .count
@@ -111,7 +111,7 @@ module _ {limits : Limits} {one : Bool} {text h₀ l₀ b₀ : List ℕ} {base :
   after-length : length after ≡ length h
   after-length = length-front h e stack-words same
 
-  pub kept-on : {l' b' : List ℕ} → length l' ≡ length l → length b' ≡ length b → Kept h₀ l₀ b₀ after l' b'
+  pub kept-on : {l' b' : List ℕ} → length l' ≡ length l → length b' ≡ length b → LengthsKept h₀ l₀ b₀ after l' b'
   kept-on p q =
       record {
         behind-kept = drop-at e (drop stack-words h) stack-words front-long ∙ i .kept .behind-kept;

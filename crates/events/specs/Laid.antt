@@ -87,28 +87,28 @@ module _ (m : Mark) (es : List Event) where
   puts-ends (suc n) = let e = puts-ends n in omega arith
 
 -- an empty token that comes first: the opening o is the kind k
-pub record Opens (k : Kind) (o : Opening) : Type 0 where
+pub record OpeningIs (k : Kind) (o : Opening) : Type 0 where
   pub same : (used : ℕ) (m : Mark) → opened-of m o ≡ event.put (empty-of (laid used k) m) ∷ []
   pub bytes : kind-bytes k ≡ []
 
-pub opens-sequence : Opens BlockSequenceStart opening.BlockSequenceStart
+pub opens-sequence : OpeningIs BlockSequenceStart opening.BlockSequenceStart
 unfolding opened-of laid kind-bytes
 opens-sequence = record { same = λ used m. refl; bytes = refl }
 
-pub opens-mapping : Opens BlockMappingStart opening.BlockMappingStart
+pub opens-mapping : OpeningIs BlockMappingStart opening.BlockMappingStart
 unfolding opened-of laid kind-bytes
 opens-mapping = record { same = λ used m. refl; bytes = refl }
 
-pub opens-flow-mapping : Opens FlowMappingStart opening.FlowMappingStart
+pub opens-flow-mapping : OpeningIs FlowMappingStart opening.FlowMappingStart
 unfolding opened-of laid kind-bytes
 opens-flow-mapping = record { same = λ used m. refl; bytes = refl }
 
-pub opens-flow-end : Opens FlowMappingEnd opening.FlowMappingEnd
+pub opens-flow-end : OpeningIs FlowMappingEnd opening.FlowMappingEnd
 unfolding opened-of laid kind-bytes
 opens-flow-end = record { same = λ used m. refl; bytes = refl }
 
 -- where a test holds
-pub laid-opening : {k : Kind} {o : Opening} → Opens k o → (used : ℕ) (m : Mark) (es : List Event) (b : Bool)
+pub laid-opening : {k : Kind} {o : Opening} → OpeningIs k o → (used : ℕ) (m : Mark) (es : List Event) (b : Bool)
     → laid-events used (empty-if b k m ++ es) ≡ opened-of m (opening-if b o) ++ laid-events used es
 unfolding opened-of laid-events
 laid-opening w used m es true = let e : used + 0 ≡ used = omega arith in rw (w .same used m, w .bytes, e)

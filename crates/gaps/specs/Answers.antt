@@ -13,7 +13,7 @@ use Rattle.chars.specs.declared.mark.Place.{Place}
 use Rattle.chars.specs.View.{Moves, Stands, view}
 use Rattle.reading.specs.declared.Reached.{Reached}
 use Rattle.reading.specs.declared.Reached.the-variants as reached
-use Rattle.reading.specs.Reading.{Reaches, seen-place}
+use Rattle.reading.specs.Reading.{ReachesAs, seen-place}
 use Rattle.gaps.specs.declared.Gapped.{Gapped}
 use Rattle.gaps.specs.declared.Gapped.the-variants.{Got, Refused}
 use Rattle.gaps.specs.Gap.{GapEnds, Skips, seen-gap}
@@ -21,22 +21,22 @@ use Rattle.gaps.specs.Walk.{Walks}
 
 module _ {text : List ℕ} {p : Place} {r : Reached} {d : Read definition.Place} where
   -- a place is reached
-  pub reaches-to : {q : Place} {e : definition.Place} → r ≡ reached.To q → Moves text p q e → d ≡ got e → Reaches text p r d
+  pub reaches-to : {q : Place} {e : definition.Place} → r ≡ reached.To q → Moves text p q e → d ≡ got e → ReachesAs text p r d
   unfolding seen-place
   reaches-to f m e = rw f (record { same = ap got (m .same) ∙ sym e; onward = (m .stands, m .onward) })
 
   -- or a refusal
-  pub reaches-refused : {n : ℕ} {m : Mark} → r ≡ reached.Refused (record { number = n; mark = m }) → d ≡ refused n m → Reaches text p r d
+  pub reaches-refused : {n : ℕ} {m : Mark} → r ≡ reached.Refused (record { number = n; mark = m }) → d ≡ refused n m → ReachesAs text p r d
   unfolding seen-place
   reaches-refused f e = rw f (record { same = sym e; onward = tt })
 
 -- the same taken apart
-pub reached-to : {text : List ℕ} {p q : Place} {r : Reached} {d : Read definition.Place} → Reaches text p r d → r ≡ reached.To q
+pub reached-to : {text : List ℕ} {p q : Place} {r : Reached} {d : Read definition.Place} → ReachesAs text p r d → r ≡ reached.To q
     → (d ≡ got (view text q)) × Stands text q × (p .at ≤ q .at)
 unfolding seen-place
 reached-to w e = (sym (rw e at (w .same)), (rw e at (w .onward)) .0, (rw e at (w .onward)) .1)
 
-pub reached-refused : {text : List ℕ} {p : Place} {r : Reached} {d : Read definition.Place} {f : Refusal} → Reaches text p r d → r ≡ reached.Refused f
+pub reached-refused : {text : List ℕ} {p : Place} {r : Reached} {d : Read definition.Place} {f : Refusal} → ReachesAs text p r d → r ≡ reached.Refused f
     → d ≡ refused (f .number) (f .mark)
 unfolding seen-place
 reached-refused w e = sym (rw e at (w .same))

@@ -10,7 +10,7 @@ ghost use Rattle.yaml_lexeme.specs.Gap.{blanks, blanks-and-comment, on-blank, s
 ghost use Rattle.chars.specs.Blocks.{is-space};
 ghost use Rattle.chars.specs.Each.{Blocks};
 ghost use Rattle.chars.specs.View.{Moves, Stands, view};
-ghost use Rattle.reading.specs.Reading.{Reaches};
+ghost use Rattle.reading.specs.Reading.{ReachesAs};
 ghost use Rattle.gaps.specs.declared.Gapped.the-variants.{Got, Refused};
 ghost use Rattle.gaps.specs.Gap.{Open, Other, Skips, gap-from};
 ghost use Rattle.gaps.specs.Line.{is-low, line, low-run};
@@ -104,7 +104,7 @@ fn to_break(text: &[u8], start: Place) -> Place
 // The blanks and comment read after a directive, a block header, a quoted scalar, a bracket, ',' and `...`.
 pub fn blanks_and_comment(text: &[u8], start: Place) -> Reached
     requires { ⌜ Stands (now text) start ⌝ }
-    ensures { λ r. ⌜ Reaches (now (text .entry)) start r (blanks-and-comment (view (now (text .entry)) start)) ⌝ }
+    ensures { λ r. ⌜ ReachesAs (now (text .entry)) start r (blanks-and-comment (view (now (text .entry)) start)) ⌝ }
 {
     let from = start.at;
     let blank = is_blank(byte(text, from) as u32);

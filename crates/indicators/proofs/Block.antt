@@ -27,7 +27,7 @@ use Rattle.events.specs.declared.Note.the-variants as note
 use Rattle.events.specs.declared.Opening.{Opening}
 use Rattle.events.specs.declared.Opening.the-variants as opening
 use Rattle.events.specs.Event.{laid-events, laid-of, opening-if}
-use Rattle.events.specs.Laid.{Opens, Textless, laid-of-opening, laid-opening, laid-textless, opens-mapping, opens-sequence}
+use Rattle.events.specs.Laid.{OpeningIs, Textless, laid-of-opening, laid-opening, laid-textless, opens-mapping, opens-sequence}
 use Rattle.states.specs.declared.State.{State}
 use Rattle.states.specs.State.{s-with-indents, state-of}
 use Rattle.states.specs.Seen.{in-flow-seen, level-zero}
@@ -48,7 +48,7 @@ unfolding laid kind-bytes
 key = record { same = λ used. refl; bytes = refl }
 
 -- an empty token where a test holds, then the one character here
-module _ {k : Kind} {o : Opening} (a : Opens k o) {l : Kind} {h : held.Kind} (b : Textless l h) where
+module _ {k : Kind} {o : Opening} (a : OpeningIs k o) {l : Kind} {h : held.Kind} (b : Textless l h) where
   abbrev events : Bool → Place → List Event
   events starts p = empty-if starts k (p .mark) ++ (put (record { kind = l; start = p .mark; end = along (p .mark) }) ∷ [])
 

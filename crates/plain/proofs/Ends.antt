@@ -153,13 +153,13 @@ none-length flow blank s at Ill e k = rw (← e)
 none-length flow blank s at End e k = rw (← e)
 
 -- a character of n bytes that is text
-pub record Goes (flow blank : Bool) (s : List ℕ) (at n : ℕ) : Type 0 where
+pub record IsText (flow blank : Bool) (s : List ℕ) (at n : ℕ) : Type 0 where
   pub char : ℕ
   pub is : CharAt s at char n
   pub on : plain-stops flow blank char (peek (chars (drop (at + n) s)) 0) ≡ false
 
 pub goes-by : (flow blank : Bool) (s : List ℕ) (at : ℕ) (d : Decoded) → first (drop at s) ≡ d → (n : ℕ) → n ≡ taken flow blank s at d → (n ≡ 0 → ⊥)
-    → Goes flow blank s at n
+    → IsText flow blank s at n
 unfolding taken
 goes-by flow blank s at (Char c k) f n e h =
     by-test (plain-stops flow blank c (peek (chars (drop (at + k) s)) 0))

@@ -25,7 +25,7 @@ use Rattle.chars.specs.Places.{stands-along}
 use Rattle.chars.specs.View.{Stands, past, view}
 use Rattle.reading.specs.declared.Reading.{Reading}
 use Rattle.reading.specs.declared.Reading.the-variants as reading
-use Rattle.reading.specs.Reading.{Given, Lexes}
+use Rattle.reading.specs.Reading.{ReaderGiven, Lexes}
 use Rattle.reading.specs.Reading as readings
 use Rattle.reading.specs.Scalars.{scalar-at, scalar-got}
 
@@ -78,7 +78,7 @@ first-char s h b n e f =
     rw (f, e, ← k) a
 
 -- the scalar from its first character of n bytes to the place e
-module _ (flow : Bool) {text : List ℕ} {used : ℕ} {start : Mark} {c n : ℕ} (g : Given text start used) (a : CharAt text 0 c n) where
+module _ (flow : Bool) {text : List ℕ} {used : ℕ} {start : Mark} {c n : ℕ} (g : ReaderGiven text start used) (a : CharAt text 0 c n) where
   abbrev behind-first : Place
   behind-first = past (readings.first-at start) n (along start)
 

@@ -21,7 +21,7 @@ use Rattle.chars.specs.Parts.{Spans, part, part-more, part-none}
 use Rattle.chars.specs.Places.{stands-along}
 use Rattle.chars.specs.View.{Stands}
 use Rattle.plain.specs.Text.{text-length}
-use Rattle.plain.proofs.Ends.{Goes, blank-unmarked, goes-by, ordinary-ascii, ordinary-unblank, ordinary-unmarked, stops-by, unmarked}
+use Rattle.plain.proofs.Ends.{IsText, blank-unmarked, goes-by, ordinary-ascii, ordinary-unblank, ordinary-unmarked, stops-by, unmarked}
 use Rattle.plain.proofs.TextTurns.{Coded, coded, resume, resume-here, turn-blank, turn-text}
 
 -- the mark at an offset behind p on its line, `extra` bytes on the way being no characters
@@ -62,7 +62,7 @@ on-start s flow p h =
 module _ {s : List ℕ} {flow : Bool} {p : Place} {at end extra : ℕ} (o : On s flow p at end extra) where
   -- a turn over a character, by the byte b there
   module _ (b : ℕ) (e : b ≡ getD s at 0) where
-    pub on-text : is-blank b ≡ false → {n : ℕ} (g : Goes flow (ltb end at) s at n) (x : ℕ) → extra + n ≡ x + 1 → On s flow p (at + n) (at + n) x
+    pub on-text : is-blank b ≡ false → {n : ℕ} (g : IsText flow (ltb end at) s at n) (x : ℕ) → extra + n ≡ x + 1 → On s flow p (at + n) (at + n) x
     on-text h {n} g x k =
         let f : p .at + extra ≤ at = omega (arith, o) in
         let u : is-blank (g .char) ≡ false = rw (g .is .next) at (ascii-at s at b e blank-ascii) ∙ h in

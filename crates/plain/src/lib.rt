@@ -12,7 +12,7 @@ ghost use Rattle.chars.specs.Blocks.{ordinary};
 ghost use Rattle.chars.specs.Each.{Blocks};
 ghost use Rattle.chars.specs.Parts.{Spans};
 ghost use Rattle.chars.specs.View.{Small, Stands, view};
-ghost use Rattle.reading.specs.Reading.{Given, Lexes, first-at};
+ghost use Rattle.reading.specs.Reading.{ReaderGiven, Lexes, first-at};
 ghost use Rattle.plain.specs.Text.{ends-at-colon, text-length, usual};
 use chars::block::ByteClass;
 use chars::block::all_of;
@@ -169,7 +169,7 @@ fn text_end(text: &[u8], start: Place, flow: bool) -> Place
 
 // From its first character, whatever that is.
 pub fn scan_plain_scalar(text: &[u8], start: Mark, flow: bool, used: u32, out: &mut [u8]) -> Reading
-    requires { ⌜ Given (now text) start used × (is-z (peek (chars (now text)) 0) ≡ false) ⌝ }
+    requires { ⌜ ReaderGiven (now text) start used × (is-z (peek (chars (now text)) 0) ≡ false) ⌝ }
     ensures { λ r. ⌜ Lexes (now (text .entry)) (now (out .entry)) (now (out .exit)) used r (got (scan-plain-scalar flow (view (now (text .entry)) (first-at start)))) ⌝ }
 {
     let first = Place::first_at(start);

@@ -28,14 +28,14 @@ use Rattle.reading.specs.declared.Reached.the-variants as reached
 use Rattle.reading.specs.declared.Reading.{Reading}
 use Rattle.reading.specs.declared.Reading.the-variants as reading
 use Rattle.reading.specs.Answers.{lexes-cleared, lexes-refused}
-use Rattle.reading.specs.Reading.{Clears, Indicated, Lexes, Reaches, first-at, laid-read, seen, seen-place, text-size}
+use Rattle.reading.specs.Reading.{Clears, Indicated, Lexes, ReachesAs, first-at, laid-read, seen, seen-place, text-size}
 use Rattle.reading.specs.Scalars.{scalar-at}
 use Rattle.quoted.specs.declared.turns.End.the-variants.{Closed, Refused}
 use Rattle.quoted.specs.declared.turns.Quote.{Quote}
 use Rattle.quoted.specs.After.{Follows, after-run, followed, held-after, held-to, scalar-to, style-of}
 use Rattle.quoted.specs.Advance.{QuotedText, RunEnds, ended, quote-of, written}
 
-module _ (flow : Bool) (q : Quote) (used n : ℕ) {text : List ℕ} {p : Place} {x : Reached} {r : Reading} (w : Reaches text p x (blanks-and-comment (view text p))) where
+module _ (flow : Bool) (q : Quote) (used n : ℕ) {text : List ℕ} {p : Place} {x : Reached} {r : Reading} (w : ReachesAs text p x (blanks-and-comment (view text p))) where
   pub follows-stuck : {f : Refusal} → x ≡ reached.Refused f → r ≡ reading.Refused f → Follows text r (held-after flow (quote-of q) used n (view text p))
   unfolding held-after _>>=_ seen-place seen
   follows-stuck e g = let k = sym (rw e at (w .same)) in rw (g, k) (record { same = refl; ahead = tt })

@@ -13,7 +13,7 @@ use Rattle.reading.specs.Puts.{Puts, puts-breaks}
 use Rattle.chars.specs.Parts.{part}
 use Rattle.quoted.specs.declared.fold.Mode.{Mode}
 use Rattle.quoted.specs.declared.fold.Mode.the-variants.{Blanks, Chars, Escaped, Folded, Joined}
-use Rattle.quoted.specs.Modes.{Kept, PutsKept, mode-of}
+use Rattle.quoted.specs.Modes.{BlanksKept, PutsKept, mode-of}
 
 module _ {text : List ℕ} {at n : ℕ} {mode : Mode} where
   pub kept-chars : (before : List ℕ) → mode ≡ Chars → PutsKept text at mode n before before n
@@ -25,7 +25,7 @@ module _ {text : List ℕ} {at n : ℕ} {mode : Mode} where
   kept-escaped before e = rw e (record { puts = record { bytes = refl; next = omega arith }; few = omega arith })
 
   module _ {before after : List ℕ} where
-    pub kept-blanks : {from : ℕ} → mode ≡ Blanks from → Kept text at mode → at ≤ length text → after ≡ sets before n (part text from at)
+    pub kept-blanks : {from : ℕ} → mode ≡ Blanks from → BlanksKept text at mode → at ≤ length text → after ≡ sets before n (part text from at)
         → PutsKept text at mode n before after (n + (at - from))
     unfolding mode-of folds-to
     kept-blanks {from} e k h f =

@@ -19,7 +19,7 @@ use Rattle.chars.specs.Bytes.{CharAt}
 use Rattle.chars.specs.Parts.{part, part-more, part-none}
 use Rattle.quoted.specs.declared.fold.Mode.{Mode}
 use Rattle.quoted.specs.declared.fold.Mode.the-variants.{Blanks, Chars, Escaped, Folded, Joined}
-use Rattle.quoted.specs.Modes.{Kept, behind-break, blank-mode, break-mode, line-number, mode-of, owed}
+use Rattle.quoted.specs.Modes.{BlanksKept, behind-break, blank-mode, break-mode, line-number, mode-of, owed}
 
 -- behind the blank c of one byte
 module _ {text : List ℕ} {at c : ℕ} (a : CharAt text at c 1) (l : c < 128) where
@@ -29,7 +29,7 @@ module _ {text : List ℕ} {at c : ℕ} (a : CharAt text at c 1) (l : c < 128) w
   part-here : part text at (at + 1) ≡ c ∷ []
   part-here = part-blank at (omega arith) ∙ rw (part-none text at)
 
-  pub blank-is : (q : Quote) (m : Mark) (mode : Mode) → Kept text at mode
+  pub blank-is : (q : Quote) (m : Mark) (mode : Mode) → BlanksKept text at mode
       → quoted-blank q m c (mode-of text at mode)
       ≡ pick (behind-break mode && eqb c tab && ltb (edge-of m) (q .indent)) (wrong-quote 36 m) (goes [] (mode-of text (at + 1) (blank-mode at mode)) 0)
   unfolding quoted-blank mode-of blank-mode
@@ -39,7 +39,7 @@ module _ {text : List ℕ} {at c : ℕ} (a : CharAt text at c 1) (l : c < 128) w
   blank-is q m Escaped k = refl
   blank-is q m (Joined n) k = refl
 
-  pub blank-kept : (mode : Mode) → Kept text at mode → Kept text (at + 1) (blank-mode at mode)
+  pub blank-kept : (mode : Mode) → BlanksKept text at mode → BlanksKept text (at + 1) (blank-mode at mode)
   unfolding blank-mode encode
   blank-kept Chars k = (omega arith, rw (part-here, bytes1 c l))
   blank-kept (Blanks from) k = (omega (arith, k .0), rw (part-blank from (k .0), encode-append (part text from at) (c ∷ []), k .1, bytes1 c l))
@@ -47,7 +47,7 @@ module _ {text : List ℕ} {at c : ℕ} (a : CharAt text at c 1) (l : c < 128) w
   blank-kept Escaped k = tt
   blank-kept (Joined n) k = tt
 
-pub blank-owed : (text : List ℕ) (at : ℕ) (mode : Mode) → Kept text at mode → owed (at + 1) (blank-mode at mode) ≤ owed at mode + 1
+pub blank-owed : (text : List ℕ) (at : ℕ) (mode : Mode) → BlanksKept text at mode → owed (at + 1) (blank-mode at mode) ≤ owed at mode + 1
 unfolding blank-mode
 blank-owed text at Chars k = omega arith
 blank-owed text at (Blanks from) k = omega (arith, k .0)
@@ -65,7 +65,7 @@ module _ (text : List ℕ) (at next : ℕ) where
   break-is Escaped = refl
   break-is (Joined n) = rw add-one
 
-  pub break-kept : (mode : Mode) → Kept text next (break-mode mode)
+  pub break-kept : (mode : Mode) → BlanksKept text next (break-mode mode)
   unfolding break-mode
   break-kept Chars = tt
   break-kept (Blanks from) = tt

@@ -29,7 +29,7 @@ use Rattle.quoted.specs.Texts.{Stretch, passing, quote-by, text-char, wo
 use Rattle.quoted.specs.Advance.{Advances, Sound, TextAt, quote-of, text-turn}
 use Rattle.quoted.proofs.Putting.{take-closed, take-pair, take-words}
 use Rattle.quoted.proofs.Runs.{run-passing}
-use Rattle.quoted.proofs.Texts.{Passed, pass-along, run-closed, run-pair, run-words, words-more}
+use Rattle.quoted.proofs.Texts.{ManyPassed, pass-along, run-closed, run-pair, run-words, words-more}
 use Rattle.quoted.proofs.Turning.{closed-at, goes-on}
 
 quote-unblank : (single : Bool) → (is-blank (quote-by single) ≡ false) × (is-break (quote-by single) ≡ false)
@@ -54,7 +54,7 @@ module _ {text : List ℕ} {q : Quote} {p : Place} {n : ℕ} {r : Turned} (s : S
         let cs = chars (drop (at + 1) text) in
         let d = eq-char text (at + 1) b e 39 tt (eqb-true b 39 (both-true (q .single) (eqb b 39) h .1)) in
         let g : (q .single && eqb (peek cs 0) single-quote) ≡ true = rw (eq-at text (at + 1) b e 39 tt) h in
-        let l : Passed 1 cs = rw (d .next) ((omega arith, omega arith, single-low), tt) in
+        let l : ManyPassed 1 cs = rw (d .next) ((omega arith, omega arith, single-low), tt) in
         let i : m .index + 1 + 1 ≡ m .index + 2 = omega arith in
         let j : m .col + 1 + 1 ≡ m .col + 2 = omega arith in
         let x : at + 1 + 1 ≡ at + 2 = omega arith in

@@ -18,7 +18,7 @@ use Rattle.quoted.specs.declared.turns.Progress.{Progress}
 use Rattle.quoted.specs.declared.turns.Turned.{Turned}
 use Rattle.quoted.specs.declared.turns.Turned.the-variants.{Ends, Goes}
 use Rattle.quoted.specs.Modes.{mode-of}
-use Rattle.quoted.specs.Advance.{Advances, ClosedBehind, EndLeaves, Leaves, RunEnds, Sound, led-to, quote-of, text-turn, to-write, turn-of, written}
+use Rattle.quoted.specs.Advance.{Advances, ClosedBehind, EndLeaves, TurnLeaves, RunEnds, Sound, led-to, quote-of, text-turn, to-write, turn-of, written}
 
 pub record Running (text : List ℕ) (q : Quote) (before out : List ℕ) (t : Progress) : Type 0 where
   pub sound : Sound text t
@@ -40,7 +40,7 @@ behind-from : (text : List ℕ) (at : ℕ) (e : End) → ClosedBehind text at e 
 behind-from text at (Closed p n) h = (h .0, omega (arith, h .1), h .2)
 behind-from text at (Refused f) h = tt
 
-end-leaves : (before out next : List ℕ) (n : ℕ) (t : List ℕ) (e : End) → length out ≡ length before → Leaves out n next t (Ends e) → EndLeaves before next e
+end-leaves : (before out next : List ℕ) (n : ℕ) (t : List ℕ) (e : End) → length out ≡ length before → TurnLeaves out n next t (Ends e) → EndLeaves before next e
 end-leaves before out next n t (Closed p k) l h = ap length (h .bytes) ∙ length-sets out n (encode t) ∙ l
 end-leaves before out next n t (Refused f) l h = h ∙ rw l
 

@@ -29,11 +29,11 @@ abbrev pub Low : ℕ → Type 0
 Low c = (0 < c) × (c < 128) × (is-break c ≡ false)
 
 -- so many of them
-abbrev pub Passed : ℕ → List ℕ → Type 0
-Passed zero cs = Unit {0}
-Passed (suc k) cs = Low (peek cs 0) × Passed k (drop 1 cs)
+abbrev pub ManyPassed : ℕ → List ℕ → Type 0
+ManyPassed zero cs = Unit {0}
+ManyPassed (suc k) cs = Low (peek cs 0) × ManyPassed k (drop 1 cs)
 
-pub pass-along : (k : ℕ) (m : Mark) (cs : List ℕ) → Passed k cs → passing k m cs ≡ here (along-by k m) (drop k cs)
+pub pass-along : (k : ℕ) (m : Mark) (cs : List ℕ) → ManyPassed k cs → passing k m cs ≡ here (along-by k m) (drop k cs)
 unfolding passing
 pass-along zero m cs h =
     let i : m .index + 0 ≡ m .index = omega arith in
@@ -45,7 +45,7 @@ pass-along (suc k) m (c ∷ cs) h =
     let j : m .col + 1 + k ≡ m .col + suc k = omega arith in
     ap (λ (n : Mark). passing k n cs) (over-along m c (peek cs 0) (h .0 .2)) ∙ pass-along k (along m) cs (h .1) ∙ rw (i, j)
 
-pub pass-reach : (s : List ℕ) (at k : ℕ) → Passed k (chars (drop at s)) → Reach s at k (at + k)
+pub pass-reach : (s : List ℕ) (at k : ℕ) → ManyPassed k (chars (drop at s)) → Reach s at k (at + k)
 pass-reach s at zero h = let e : at + 0 ≡ at = omega arith in rw e none
 pass-reach s at (suc k) h =
     let e : at + suc k ≡ at + 1 + k = omega arith in

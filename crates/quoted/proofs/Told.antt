@@ -18,7 +18,7 @@ use Rattle.yaml_lexeme.specs.declared.Named.the-variants.{Digits, Stands, Unkno
 use Rattle.yaml_lexeme.specs.Escape.{Escaped, escape, escape-of, hex-number, named}
 use Rattle.yaml_lexeme.specs.EscapeTable.{by-letter}
 use Rattle.chars.specs.Ascii.{apart, ascii-low, hex-ascii}
-use Rattle.quoted.proofs.Texts.{Low, Passed}
+use Rattle.quoted.proofs.Texts.{Low, ManyPassed}
 
 -- the letters behind a backslash
 known : Named → Bool
@@ -51,11 +51,11 @@ hex-low c e = let l = ascii-low hex-ascii c e in (l .0, l .1, apart is-break hex
 module _ (start : Mark) where
   -- so many characters are taken, or it is refused at the start
   abbrev HexTold : ℕ → List ℕ → Read ℕ → Type 0
-  HexTold n cs (got v) = Passed n cs
+  HexTold n cs (got v) = ManyPassed n cs
   HexTold n cs (refused k m) = m ≡ start
 
   abbrev Told : List ℕ → Read Escaped → Type 0
-  Told cs (got e) = (1 ≤ e .took) × Passed (e .took) cs
+  Told cs (got e) = (1 ≤ e .took) × ManyPassed (e .took) cs
   Told cs (refused k m) = m ≡ start
 
   hex-more : (n : ℕ) (cs : List ℕ) (r : Read ℕ) → Low (peek cs 0) → HexTold n (drop 1 cs) r → HexTold (suc n) cs r
@@ -87,7 +87,7 @@ module _ (start : Mark) where
   unfolding escape
   told cs = told-by cs (named (peek cs 0)) (letter-low (peek cs 0))
 
-  pub escape-passes : (cs : List ℕ) (e : Escaped) → escape start cs ≡ got e → (1 ≤ e .took) × Passed (e .took) cs
+  pub escape-passes : (cs : List ℕ) (e : Escaped) → escape start cs ≡ got e → (1 ≤ e .took) × ManyPassed (e .took) cs
   escape-passes cs e f = rw f at (told cs)
 
   pub escape-at-start : (cs : List ℕ) (n : ℕ) (m : Mark) → escape start cs ≡ refused n m → m ≡ start

@@ -32,7 +32,7 @@ use Rattle.quoted.specs.declared.turns.Turned.{Turned}
 use Rattle.quoted.specs.declared.turns.Turned.the-variants.{Ends, Goes}
 use Rattle.quoted.specs.Modes.{behind-break, blank-mode, break-mode, mode-of}
 use Rattle.quoted.specs.Texts.{Stretch, before-stretch, passing}
-use Rattle.quoted.specs.Advance.{Advances, Leads, Leaves, Sound, blank-turned, break-turned, ended, led-to, quote-of, rest-of, swept, turn-of, written}
+use Rattle.quoted.specs.Advance.{Advances, Leads, TurnLeaves, Sound, blank-turned, break-turned, ended, led-to, quote-of, rest-of, swept, turn-of, written}
 use Rattle.quoted.proofs.Kept.{blank-is, blank-kept, blank-owed, break-is, break-kept, break-owed}
 use Rattle.quoted.proofs.Putting.{take-blank, take-break}
 use Rattle.quoted.proofs.Runs.{before-none, run-blank, run-break}
@@ -73,8 +73,8 @@ closed-at {t = t} before i e s h l k =
     rw k (record { same = rw (e, z); leaves = rw (← i) (record { bytes = refl; next = omega arith }); leads = tt; onward = (s, h, l) })
 
 -- what was kept back is written first, on the spot
-leaves-from : {before mid : List ℕ} {n k : ℕ} {w : List ℕ} (after t : List ℕ) (r : Turned) → Puts before n mid k w → Leaves mid k after t r
-    → Leaves before n after (w ++ t) r
+leaves-from : {before mid : List ℕ} {n k : ℕ} {w : List ℕ} (after t : List ℕ) (r : Turned) → Puts before n mid k w → TurnLeaves mid k after t r
+    → TurnLeaves before n after (w ++ t) r
 leaves-from after t (Goes u) p h = puts-then p h
 leaves-from after t (Ends (Closed e k)) p h = puts-then p h
 leaves-from {before} {n = n} {w = w} after t (Ends (Refused f)) p h = let l = ap length (p .bytes) ∙ length-sets before n (encode w) in h ∙ rw l

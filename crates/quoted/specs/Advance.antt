@@ -27,7 +27,7 @@ use Rattle.quoted.specs.declared.turns.Progress.{Progress}
 use Rattle.quoted.specs.declared.turns.Turned.{Turned}
 use Rattle.quoted.specs.declared.turns.Turned.the-variants.{Ends, Goes}
 use Rattle.reading.specs.Puts.{Puts}
-use Rattle.quoted.specs.Modes.{Kept, behind-break, blank-mode, break-mode, mode-of, owed}
+use Rattle.quoted.specs.Modes.{BlanksKept, behind-break, blank-mode, break-mode, mode-of, owed}
 use Rattle.quoted.specs.Texts.{Stretch, turn-stretch}
 
 abbrev pub quote-of : Quote → quotes.Quote
@@ -66,7 +66,7 @@ led-to text q out (Ends e) = ended text out e
 pub record Sound (text : List ℕ) (t : Progress) : Type 0 where
   pub stands : Stands text (t .place)
   pub short : length text ≤ 1_048_576
-  pub kept : Kept text (t .place .at) (t .mode)
+  pub kept : BlanksKept text (t .place .at) (t .mode)
   pub few : t .count + owed (t .place .at) (t .mode) ≤ 3 * t .place .at
 
 -- the same where nothing is kept back
@@ -91,15 +91,15 @@ Leads text d (Goes u) = (mode-of text (u .place .at) (u .mode) ≡ d .mode) × (
 Leads text d (Ends e) = Unit {0}
 
 -- its text is written from n on; a refusal leaves the lent bytes all zero
-abbrev pub Leaves : List ℕ → ℕ → List ℕ → List ℕ → Turned → Type 0
-Leaves before n after t (Goes u) = Puts before n after (u .count) t
-Leaves before n after t (Ends (Closed p k)) = Puts before n after k t
-Leaves before n after t (Ends (Refused f)) = after ≡ replicate (length before) 0
+abbrev pub TurnLeaves : List ℕ → ℕ → List ℕ → List ℕ → Turned → Type 0
+TurnLeaves before n after t (Goes u) = Puts before n after (u .count) t
+TurnLeaves before n after t (Ends (Closed p k)) = Puts before n after k t
+TurnLeaves before n after t (Ends (Refused f)) = after ≡ replicate (length before) 0
 
 -- the contract of a turn
 pub record Advances (text : List ℕ) (q : Quote) (before after : List ℕ) (t : Progress) (r : Turned) : Type 0 where
   pub same : to-write text q before t ≡ led-to text q after r
-  pub leaves : Leaves before (t .count) after (turn-of text q t .text) r
+  pub leaves : TurnLeaves before (t .count) after (turn-of text q t .text) r
   pub leads : Leads text (turn-of text q t) r
   pub onward : Further text (t .place .at) r
 

@@ -14,7 +14,7 @@ use Rattle.yaml_lexeme.specs.Gap.{blanks-and-comment}
 use Rattle.yaml_lexeme.specs.Quoted.{Quote, fits-after}
 use Rattle.yaml_lexeme.specs.Token.{Lexeme, Scalar, lexeme}
 use Rattle.reading.specs.declared.Reading.{Reading}
-use Rattle.reading.specs.Reading.{Ahead, Seen, seen}
+use Rattle.reading.specs.Reading.{ReadsAhead, Seen, seen}
 
 abbrev pub style-of : Quote → Style
 style-of q = pick (q .single) SingleQuoted DoubleQuoted
@@ -39,4 +39,4 @@ held-after flow q used n p = blanks-and-comment p >>= followed flow q (held-to q
 
 pub record Follows (text : List ℕ) (r : Reading) (d : Read Seen) : Type 0 where
   pub same : seen text r ≡ d
-  pub ahead : Ahead text r
+  pub ahead : ReadsAhead text r

@@ -25,12 +25,12 @@ mode-of text at Escaped = joined 0 true
 mode-of text at (Joined k) = joined k false
 
 -- blanks are of one byte each: their bytes are their characters
-abbrev pub Kept : List ℕ → ℕ → Mode → Type 0
-Kept text at Chars = Unit {0}
-Kept text at (Blanks from) = (from ≤ at) × (encode (part text from at) ≡ part text from at)
-Kept text at (Folded k) = Unit {0}
-Kept text at Escaped = Unit {0}
-Kept text at (Joined k) = Unit {0}
+abbrev pub BlanksKept : List ℕ → ℕ → Mode → Type 0
+BlanksKept text at Chars = Unit {0}
+BlanksKept text at (Blanks from) = (from ≤ at) × (encode (part text from at) ≡ part text from at)
+BlanksKept text at (Folded k) = Unit {0}
+BlanksKept text at Escaped = Unit {0}
+BlanksKept text at (Joined k) = Unit {0}
 
 -- how many bytes may come of it, at most
 abbrev pub owed : ℕ → Mode → ℕ

@@ -2,7 +2,7 @@
 ghost use mathlib.Core.Path.{_≡_};
 ghost use Prim.Native.Nat.{_+_, _<_, _^_, _≤_};
 ghost use lib.ListN.{length};
-ghost use Rattle.quoted.specs.Modes.{Kept, PutsKept, behind-break, blank-mode, break-mode, held-against, owed};
+ghost use Rattle.quoted.specs.Modes.{BlanksKept, PutsKept, behind-break, blank-mode, break-mode, held-against, owed};
 use reading::put_breaks;
 use reading::put_fold;
 use rooms::copy;
@@ -76,7 +76,7 @@ pub fn is_checked(mode: Mode, quote: bool) -> bool
 
 // Stores what blanks and breaks become before the text at a place, from n on; an escaped break is nothing. Where the next byte goes.
 pub fn put_kept(text: &[u8], at: usize, mode: Mode, n: usize, out: &mut [u8]) -> usize
-    requires { ⌜ Kept (now text) at mode × (at ≤ length (now text)) × (n + owed at mode < 2 ^ 62) ⌝ }
+    requires { ⌜ BlanksKept (now text) at mode × (at ≤ length (now text)) × (n + owed at mode < 2 ^ 62) ⌝ }
     ensures { λ r. ⌜ PutsKept (now (text .entry)) at mode n (now (out .entry)) (now (out .exit)) r ⌝ }
 {
     match mode {

@@ -20,20 +20,20 @@ use Rattle.chars.specs.View.{Stands, past, view}
 use Rattle.reading.specs.declared.Lexeme.{Lexeme}
 use Rattle.reading.specs.declared.Reading.{Reading}
 use Rattle.reading.specs.declared.Reading.the-variants.{Got, Refused}
-use Rattle.reading.specs.Reading.{Ahead, Behind, Clears, Given, Indicated, Lexes, bytes-after, cleared, first-at, laid-read, seen}
+use Rattle.reading.specs.Reading.{ReadsAhead, Behind, Clears, ReaderGiven, Indicated, Lexes, bytes-after, cleared, first-at, laid-read, seen}
 
 -- what a reader answers, without the lent bytes
-pub record Answers (text : List ℕ) (used : ℕ) (r : Reading) (d : Read tokens.Lexeme) : Type 0 where
+pub record ReaderAnswers (text : List ℕ) (used : ℕ) (r : Reading) (d : Read tokens.Lexeme) : Type 0 where
   pub same : seen text r ≡ laid-read used d
-  pub ahead : Ahead text r
+  pub ahead : ReadsAhead text r
 
 module _ {text : List ℕ} {used : ℕ} {r : Reading} {d : Read tokens.Lexeme} where
   pub answers-got : {x : Lexeme} {l : tokens.Lexeme} → r ≡ Got x → d ≡ got l → x .token ≡ laid-token used (l .token) → view text (x .next) ≡ l .place
-      → Behind text x → Answers text used r d
+      → Behind text x → ReaderAnswers text used r d
   unfolding seen laid-read
   answers-got e f t p h = rw (e, f) (record { same = rw (t, p); ahead = h })
 
-  pub answers-refused : {n : ℕ} {m : Mark} → r ≡ Refused (record { number = n; mark = m }) → d ≡ refused n m → Answers text used r d
+  pub answers-refused : {n : ℕ} {m : Mark} → r ≡ Refused (record { number = n; mark = m }) → d ≡ refused n m → ReaderAnswers text used r d
   unfolding seen laid-read
   answers-refused e f = rw (e, f) (record { same = refl; ahead = tt })
 
@@ -56,7 +56,7 @@ apart : {A B : Type 0} {a : A} {n : ℕ} {m : Mark} → got a ≡ refused n m �
 apart e = let z : _≡_ {A = ℕ} 0 1 = cc in absurd (omega arith)
 
 -- what was answered, once a refusal has cleared the room
-pub lexes-cleared : {text before mid after : List ℕ} {used : ℕ} {e : Reading} (r : Reading) (d : Read tokens.Lexeme) → Answers text used r d → TextsIn before mid d
+pub lexes-cleared : {text before mid after : List ℕ} {used : ℕ} {e : Reading} (r : Reading) (d : Read tokens.Lexeme) → ReaderAnswers text used r d → TextsIn before mid d
     → length mid ≡ length before → Clears mid after r e → Lexes text before after used e d
 unfolding seen laid-read bytes-after cleared
 lexes-cleared (Got l) (got x) h (holds w) i k = rw (k .same) (record { same = h .same; bytes = k .bytes ∙ w; ahead = h .ahead })
@@ -76,7 +76,7 @@ module _ {text : List ℕ} {start : Mark} {used : ℕ} (h : Indicated text start
   pub stands-behind : Stands text (behind-first start)
   stands-behind = stands-along (h .given .stands) 1 1 (omega arith) (first-char .within)
 
-module _ {text : List ℕ} {start : Mark} {used : ℕ} (h : Given text start used) where
+module _ {text : List ℕ} {start : Mark} {used : ℕ} (h : ReaderGiven text start used) where
   -- no count of the text's bytes wraps as a word
   pub word-small : (n : ℕ) → n ≤ length text → n % 2 ^ 32 ≡ n
   word-small n k = omega (arith, h .stands)

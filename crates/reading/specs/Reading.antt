@@ -26,13 +26,13 @@ abbrev pub first-at : Mark → Place
 first-at m = record { at = 0; mark = m }
 
 -- what a reader is given: the text from its own first byte at the mark `start`, behind so many bytes of decoded text
-pub record Given (text : List ℕ) (start : Mark) (used : ℕ) : Type 0 where
+pub record ReaderGiven (text : List ℕ) (start : Mark) (used : ℕ) : Type 0 where
   pub stands : Stands text (first-at start)
   pub room : used < 2 ^ 31
 
 -- the same, an indicator of one byte being its first character
 pub record Indicated (text : List ℕ) (start : Mark) (used : ℕ) : Type 0 where
-  pub given : Given text start used
+  pub given : ReaderGiven text start used
   pub some : 1 ≤ length text
   pub ascii : getD text 0 0 < 128
 
@@ -88,15 +88,15 @@ pub record Behind (text : List ℕ) (l : Lexeme) : Type 0 where
   pub some : 1 ≤ l .next .at
   pub size : text-size (l .token .kind) ≤ 3 * l .next .at
 
-abbrev pub Ahead : List ℕ → Reading → Type 0
-Ahead text (reading.Got l) = Behind text l
-Ahead text (reading.Refused f) = Unit {0}
+abbrev pub ReadsAhead : List ℕ → Reading → Type 0
+ReadsAhead text (reading.Got l) = Behind text l
+ReadsAhead text (reading.Refused f) = Unit {0}
 
 -- the contract of a reader
 pub record Lexes (text before after : List ℕ) (used : ℕ) (r : Reading) (d : Read tokens.Lexeme) : Type 0 where
   pub same : seen text r ≡ laid-read used d
   pub bytes : after ≡ bytes-after before d
-  pub ahead : Ahead text r
+  pub ahead : ReadsAhead text r
 
 -- a refusal leaves the lent bytes all zero, and anything else leaves them as they are
 unfoldable pub cleared : List ℕ → Reading → List ℕ
@@ -116,6 +116,6 @@ abbrev pub Onward : List ℕ → Place → Reached → Type 0
 Onward text p (reached.To q) = Stands text q × (p .at ≤ q .at)
 Onward text p (reached.Refused f) = Unit {0}
 
-pub record Reaches (text : List ℕ) (p : Place) (r : Reached) (d : Read definition.Place) : Type 0 where
+pub record ReachesAs (text : List ℕ) (p : Place) (r : Reached) (d : Read definition.Place) : Type 0 where
   pub same : seen-place text r ≡ d
   pub onward : Onward text p r

@@ -67,11 +67,11 @@ pub record Writes (text before after : List ℕ) (p : Place) (n : ℕ) (r : Run)
   pub kept : length after ≡ length before
   pub ahead : RunEnds text p n r
 
-abbrev pub Leaves : List ℕ → List ℕ → Run → Type 0
-Leaves left after (To q k) = Unit {0}
-Leaves left after (Refused f) = after ≡ left
+abbrev pub RunLeaves : List ℕ → List ℕ → Run → Type 0
+RunLeaves left after (To q k) = Unit {0}
+RunLeaves left after (Refused f) = after ≡ left
 
 -- the same, where a refusal leaves the bytes `left`
 pub record WritesOr (text before after left : List ℕ) (p : Place) (n : ℕ) (r : Run) (d : Read definition.Run) : Type 0 where
   pub writes : Writes text before after p n r d
-  pub leaves : Leaves left after r
+  pub leaves : RunLeaves left after r

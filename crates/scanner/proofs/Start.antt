@@ -2,11 +2,10 @@
 use Prim.Native.Nat.{_≤_, suc, zero, ℕ}
 use mathlib.Core.Bool.{false}
 use mathlib.Core.List.{List, [], _∷_}
-use mathlib.Core.Path.{_∙_, _≡_, ap, refl, sym}
+use mathlib.Core.Path.{_∙_, _≡_, ap, refl, subst, sym}
 use native.Mathlib.Omega.{arith}
 use lib.ListN.{getD, length, length-replicate, replicate}
 use lib.Seq.{getD-take}
-use Rattle.yaml_text.specs.declared.Mark.{Mark}
 use Rattle.yaml_text.specs.Mark.{origin}
 use Rattle.yaml_text.specs.Utf8.{chars}
 use Rattle.yaml_lexeme.specs.declared.Kind.the-variants as kind
@@ -14,9 +13,9 @@ use Rattle.yaml_lexeme.specs.Token.{StreamStart, empty-token, kind-bytes}
 use Rattle.yaml_lexeme.specs.Record.{laid, record-of}
 use Rattle.yaml_scan.specs.declared.Candidate.the-variants.{Absent}
 use Rattle.yaml_scan.specs.declared.Limits.{Limits}
-use Rattle.yaml_scan.specs.State.{Event, State, put, puts}
+use Rattle.yaml_scan.specs.State.{State, put, puts}
 use Rattle.yaml_scan.specs.SlotLaws.{total}
-use Rattle.yaml_scan.specs.Scan.{begin, run, scan, scanned, spent, stopped}
+use Rattle.yaml_scan.specs.Scan.{begin, run, scan}
 use Rattle.yaml_scan.specs.Scan as definition
 use Rattle.chars.specs.Places.{stands-start}
 use Rattle.events.specs.declared.Counts.{Counts}
@@ -34,11 +33,12 @@ use Rattle.sink.specs.Stored.{Stored, no-counts, stored-then}
 use Rattle.storing.specs.Step.{StepGiven}
 use Rattle.driver.specs.declared.Outcome.{Outcome}
 use Rattle.driver.specs.declared.Outcome.the-variants.{Ready, Scanned, Stopped}
-use Rattle.stream_laws.specs.Driven.{ends, pauses, stops}
-use Rattle.driver.specs.Drives.{Drives, drives, level-held}
-use Rattle.driver.specs.Held.{Modest, base-at, counts-held, held-words, put-counts, put-state, stacks-held, word}
-use Rattle.driver.proofs.Driven.{as-driven, driven-run}
-use Rattle.driver.proofs.Leaving.{Loaded, loaded-drives}
+use Rattle.stream_laws.specs.Driven.{Driven}
+use Rattle.driver.specs.Drives.{Drives, drives}
+use Rattle.driver.specs.Held.{Modest, base-at, counts-held, held-words, pending-held, put-counts, put-state, stacks-held, word}
+use Rattle.driver.proofs.Driven.{AsRun, driven-run}
+use Rattle.driver.proofs.Driving.{all-driven}
+use Rattle.driver.proofs.Leaving.{Loaded, loaded-drives, test-at}
 use Rattle.driver.proofs.Words.{stored-counts, stored-other, stored-state}
 use Rattle.scanner.specs.Run.{RunComes}
 
@@ -82,40 +82,30 @@ module _ (limits : Limits) (text : List ℕ) (modest : Modest limits) (short : l
   unfolding entries-of frame-keys frame-levels
   first-state = rw first-key
 
-  first-loaded : Loaded limits text held-first s-begin one 0 (level-held limits text held-first)
+  first-loaded : Loaded limits text held-first s-begin one 0 (pending-held held-first 0 one)
   first-loaded =
       let z = length-replicate {A = ℕ} held-words 0 in
       record {
         state-is = sym (stored-state start-given (replicate held-words 0) z);
         counts-is = sym (stored-counts start-given (replicate held-words 0) z);
         base-is = sym (ap (λ (k : ℕ). at-most (counts-held text held-first .count) k) (first-word base-at (omega arith)) ∙ at-most-stays (counts-held text held-first .count) 0 (omega arith));
-        level-is = refl;
+        pending-is = refl;
       }
 
+  -- the definition's run, with so many steps as the text has characters, and one more
+  abbrev run-from : State → definition.Outcome
+  run-from s = run limits (suc (length (chars text))) s
+
   abbrev whole : definition.Outcome
-  whole = run limits (suc (length (chars text))) (begin (chars text))
+  whole = run-from (begin (chars text))
 
-  first-drives : (room : ℕ) → drives limits false text room held-first ≡ as-driven whole
-  first-drives room =
-      loaded-drives false room held-first first-loaded ∙ driven-run limits (suc (length (chars text))) (state-of text (stacks-held held-first) 1 s-begin) one
-      ∙ ap (λ (s : State). as-driven (run limits (suc (length (chars text))) s)) first-state
-
-  -- a run that comes to what steps come to
-
-  run-scanned : (o : definition.Outcome) {es : List Event} → as-driven o ≡ ends es → o ≡ scanned es
-  run-scanned (scanned fs) e = cc
-  run-scanned (stopped k m) e = let z : _≡_ {A = ℕ} 0 1 = cc in absurd (omega arith)
-  run-scanned spent e = let z : _≡_ {A = ℕ} 0 1 = cc in absurd (omega arith)
-
-  run-stopped : (o : definition.Outcome) {k : ℕ} {m : Mark} → as-driven o ≡ stops k m → o ≡ stopped k m
-  run-stopped (scanned fs) e = let z : _≡_ {A = ℕ} 0 1 = cc in absurd (omega arith)
-  run-stopped (stopped k m) e = cc
-  run-stopped spent e = let z : _≡_ {A = ℕ} 0 1 = cc in absurd (omega arith)
-
-  run-pauses : (o : definition.Outcome) {es : List Event} {level : ℕ} {t : State} → as-driven o ≡ pauses es level t → ⊥
-  run-pauses (scanned fs) e = let z : _≡_ {A = ℕ} 0 1 = cc in absurd (omega arith)
-  run-pauses (stopped k m) e = let z : _≡_ {A = ℕ} 0 1 = cc in absurd (omega arith)
-  run-pauses spent e = let z : _≡_ {A = ℕ} 0 1 = cc in absurd (omega arith)
+  -- which is what the steps come to
+  first-comes : (room : ℕ) {d : Driven} → drives limits false text room held-first ≡ d → AsRun d whole
+  first-comes room e =
+      let s = state-of text (stacks-held held-first) 1 s-begin in
+      subst (λ (d : Driven). AsRun d whole) (sym (loaded-drives false room held-first first-loaded) ∙ e)
+      (subst (λ (y : State). AsRun (all-driven limits text (test-at false room 0) (pending-held held-first 0 one) s one) (run-from y)) first-state
+      (driven-run limits (suc (length (chars text))) (pending-held held-first 0 one) s one))
 
   -- StreamStart is stored first
   start-comes : {l' : List ℕ} (l b h words bytes : List ℕ) (o : Outcome) → l' ≡ put-record l 0 (record-of (empty-of kind.StreamStart origin)) → length l' ≡ length l
@@ -130,12 +120,12 @@ module _ (limits : Limits) (text : List ℕ) (modest : Modest limits) (short : l
       by-outcome (Scanned m) (x, _, _) =
           record {
             said = put (empty-token StreamStart origin) ∷ x .said;
-            same = rw (run-scanned whole (sym (first-drives (length b)) ∙ x .same));
+            same = rw (first-comes (length b) (x .same));
             stored = stored-then (omega arith) start-stored (rw (← first-loaded .base-is, ← first-loaded .counts-is) at (x .stored));
             few = x .few;
           }
-      by-outcome (Stopped f) x = record { same = rw (run-stopped whole (sym (first-drives (length b)) ∙ x .same)); words = x .words ∙ kept; bytes = x .bytes }
-      by-outcome Ready x = run-pauses whole (sym (first-drives (length b)) ∙ x .same)
+      by-outcome (Stopped f) x = record { same = rw (first-comes (length b) (x .same)); words = x .words-length ∙ kept; bytes = x .bytes-length }
+      by-outcome Ready x = first-comes (length b) (x .same)
 
   -- the state and the counts were stored one after the other
   pub start-runs : {s : code.State} {h₁ h₂ l' : List ℕ} (l b h words bytes : List ℕ) (o : Outcome) → s ≡ s-begin → h₁ ≡ put-state (replicate held-words 0) s → h₂ ≡ put-counts h₁ one

@@ -8,9 +8,9 @@ use Rattle.yaml_text.specs.declared.Mark.{Mark}
 use Rattle.yaml_lexeme.specs.Token.{Kind, Token, empty-token, token-bytes}
 use Rattle.yaml_lexeme.specs.Record.{record-of, record-words}
 use Rattle.yaml_scan.specs.State.{Event, put, put-before, puts}
-use Rattle.yaml_scan.specs.Candidates.{EmptyAt, Free, Given, Placed, fresh, note-at}
+use Rattle.yaml_scan.specs.Candidates.{EmptyAt, Free, GivenToken, Placed, fresh, note-at}
 use Rattle.yaml_scan.specs.Slots.{Slot, note, slot, slots}
-use Rattle.yaml_scan.specs.SlotLaws.{Holds, holds-more, holds-noted, note-length, slots-length}
+use Rattle.yaml_scan.specs.SlotLaws.{SlotsHold, holds-more, holds-noted, note-length, slots-length}
 use Rattle.events.specs.Event as event
 use Rattle.events.specs.Event.{LaidEvent, event-texts, laid-events}
 use Rattle.events.specs.Laid.{laid-append}
@@ -71,17 +71,17 @@ by-kinds : (m : Mark) (ts : List Token) → EmptyAt m ts → ts ≡ map (λ (k :
 by-kinds m [] h = refl
 by-kinds m (t ∷ ts) h = rw (sym (by-kinds m ts (h .1))) (ap (λ (u : Token). u ∷ ts) (h .0))
 
-noted-note : (gs : List Given) (xs : List Slot) (n : ℕ) (m : Mark) (ts : List Token) → Holds gs xs → Free gs n m → EmptyAt m ts → kinds ts ≡ note-kinds (note-of ts)
+noted-note : (gs : List GivenToken) (xs : List Slot) (n : ℕ) (m : Mark) (ts : List Token) → SlotsHold gs xs → Free gs n m → EmptyAt m ts → kinds ts ≡ note-kinds (note-of ts)
     → AllNoted xs → AllNoted (note n ts xs)
 unfolding AllNoted note
 noted-note gs [] n m ts h f e k r = tt
 noted-note [] (x ∷ xs) n m ts h f e k r = absurd h
 noted-note (g ∷ gs) (x ∷ xs) zero m ts h f e k r =
-    let s : x .token .start ≡ m = h .0 ∙ ap (λ (g' : Given). g' .start) (f .1) in
+    let s : x .token .start ≡ m = h .0 ∙ ap (λ (g' : GivenToken). g' .start) (f .1) in
     (rw s (by-kinds m ts e ∙ ap (λ (ks : List Kind). map (λ (kind : Kind). empty-token kind m) ks) k), r .1)
 noted-note (g ∷ gs) (x ∷ xs) (suc n) m ts h f e k r = (r .0, noted-note gs xs n m ts (h .2) (omega (arith, f .0), f .1) e k (r .1))
 
-pub slots-noted : (es : List Event) (gs : List Given) (xs : List Slot) → Holds gs xs → Placed gs es → Notes es → AllNoted xs → AllNoted (slots xs es)
+pub slots-noted : (es : List Event) (gs : List GivenToken) (xs : List Slot) → SlotsHold gs xs → Placed gs es → Notes es → AllNoted xs → AllNoted (slots xs es)
 unfolding Placed Notes slots
 slots-noted [] gs xs h p k r = r
 slots-noted (put t ∷ es) gs xs h p k r = slots-noted es (gs ++ (fresh (t .start) ∷ [])) (xs ++ (slot t [] ∷ [])) (holds-more gs xs t h) p k (noted-put xs t r)
@@ -110,7 +110,7 @@ stored-texts (put-before n ts ∷ es) xs = stored-texts es (note n ts xs) ∙ rw
 
 -- the words hold the slots
 
-holds-length : (gs : List Given) (xs : List Slot) → Holds gs xs → length gs ≡ length xs
+holds-length : (gs : List GivenToken) (xs : List Slot) → SlotsHold gs xs → length gs ≡ length xs
 holds-length [] [] h = refl
 holds-length [] (x ∷ xs) h = absurd h
 holds-length (g ∷ gs) [] h = absurd h
@@ -129,7 +129,7 @@ same-store : (es : List Event) {l l' : List ℕ} {n n' used used' : ℕ} → l �
 same-store es e f g = rw (e, f, g)
 
 -- so many bytes of text having come before the slots
-pub events-stored : (used : ℕ) (es : List Event) (gs : List Given) (xs : List Slot) (l : List ℕ) → Holds gs xs → Placed gs es → Notes es
+pub events-stored : (used : ℕ) (es : List Event) (gs : List GivenToken) (xs : List Slot) (l : List ℕ) → SlotsHold gs xs → Placed gs es → Notes es
     → length (slots xs es) * record-words ≤ length l → store-events (with-slots used xs l) (length xs) (used + used-by xs) es ≡ with-slots used (slots xs es) l
 unfolding Placed Notes slots store-laid laid-events
 events-stored used [] gs xs l h p k r = refl

@@ -1,9 +1,9 @@
 -- Frames in the lent words, six words each: the candidate's five, and the flow level's. A frame's number is its flow level.
 use Prim.Native.Nat.{_%_, _*_, _+_, _/_, _≤_, suc, zero, ℕ}
 use mathlib.Core.List.{List, [], _∷_}
-use mathlib.Core.Path.{_≡_}
+use mathlib.Core.Path.{_≡_, ap, refl}
 use lib.Dec.{eqb}
-use lib.ListN.{getD, set}
+use lib.ListN.{getD, length, set}
 use lib.Seq.{sets}
 use Rattle.yaml_text.specs.Pick.{pick}
 use Rattle.yaml_scan.specs.declared.Candidate.{Candidate}
@@ -51,10 +51,20 @@ unfoldable pub frame-keys : List ℕ → ℕ → List Candidate
 frame-keys a zero = []
 frame-keys a (suc d) = key-of a d ∷ frame-keys a d
 
+pub keys-length : (a : List ℕ) (d : ℕ) → length (frame-keys a d) ≡ d
+unfolding frame-keys
+keys-length a zero = refl
+keys-length a (suc d) = ap suc (keys-length a d)
+
 -- the levels of the frames from 1 to d, the last first: frame 0 is of flow level 0, which has none
 unfoldable pub frame-levels : List ℕ → ℕ → List Level
 frame-levels a zero = []
 frame-levels a (suc d) = level-of a (suc d) ∷ frame-levels a d
+
+pub levels-length : (a : List ℕ) (d : ℕ) → length (frame-levels a d) ≡ d
+unfolding frame-levels
+levels-length a zero = refl
+levels-length a (suc d) = ap suc (levels-length a d)
 
 -- the innermost level is another one; at level 0 there is none
 unfoldable pub with-level : Level → List Level → List Level

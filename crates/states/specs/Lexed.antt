@@ -24,7 +24,7 @@ use Rattle.rooms.specs.Room.{cleared, rest-whole, sets-at, sets-past}
 use Rattle.reading.specs.declared.Lexeme.{Lexeme}
 use Rattle.reading.specs.declared.Reading.{Reading}
 use Rattle.reading.specs.declared.Reading.the-variants.{Got, Refused}
-use Rattle.reading.specs.Reading.{Ahead, Lexes, Seen, bytes-after, laid-read, seen}
+use Rattle.reading.specs.Reading.{ReadsAhead, Lexes, Seen, bytes-after, laid-read, seen}
 use Rattle.stacks.specs.declared.indent.Indents.{Indents}
 use Rattle.stacks.specs.Frame.{frame-keys, frame-levels}
 use Rattle.stacks.specs.Indent.{Low, indents-seen}
@@ -120,7 +120,7 @@ state-to stacks count s w p =
     }
 
 -- the indents stay within their bounds, of so many entries
-pub record Keeps (room : ℕ) (s : State) (w : Way) : Type 0 where
+pub record KeepsIndents (room : ℕ) (s : State) (w : Way) : Type 0 where
   pub low : Low room (w .indents)
   pub few : w .ended ≤ s .indents .depth
 
@@ -133,7 +133,7 @@ module _ {rest before after : List ℕ} {used : ℕ} where
       (ap (λ (y : Seen). y .token) e, ap (λ (y : Seen). y .place) e)
 
 -- the place behind it wraps nowhere
-pub lexed-fits : {limits : Limits} {text a : List ℕ} {s : State} {l : Lexeme} {r : Reading} → Ready limits text a s → r ≡ Got l → Ahead (rest-at text (s .place)) r
+pub lexed-fits : {limits : Limits} {text a : List ℕ} {s : State} {l : Lexeme} {r : Reading} → Ready limits text a s → r ≡ Got l → ReadsAhead (rest-at text (s .place)) r
     → length text < 2 ^ 63 → (s .place .at + l .next .at < 2 ^ 63) × (l .next .mark .index < 2 ^ 31)
 lexed-fits {text = text} {s = s} y e h n =
     let k = rw e at h in
@@ -156,7 +156,7 @@ module _ {limits : Limits} {text rest a e u lent : List ℕ} (before : List ℕ)
       }
   lexed-refused (got x) k h tells q = let z : _≡_ {A = ℕ} 0 1 = cc (h .same) in absurd (omega arith)
 
-  pub lexed-got : {l : Lexeme} (w : Way) (x : Read tokens.Lexeme) → Ready limits text a s → rest ≡ drop (s .place .at) text → Keeps (limits .entries) s w
+  pub lexed-got : {l : Lexeme} (w : Way) (x : Read tokens.Lexeme) → Ready limits text a s → rest ≡ drop (s .place .at) text → KeepsIndents (limits .entries) s w
       → Lexes rest (part from before) lent (n .used) (Got l) x
       → d ≡ (x >>= λ (l : tokens.Lexeme). emit (closed-events (w .ended) (l .token)) (state-to e (n .count) s w (l .place))) → e ≡ u
       → FetchesText limits text a e u before (cleared before (n .used)) (back from before lent) n s d

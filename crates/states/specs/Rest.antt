@@ -8,7 +8,7 @@ use lib.Seq.{drop-drop, getD-drop}
 use Rattle.chars.specs.declared.mark.Place.{Place}
 use Rattle.chars.specs.View.{Stands, view}
 use Rattle.rooms.specs.Room.{rest-whole}
-use Rattle.reading.specs.Reading.{Given, Indicated, first-at}
+use Rattle.reading.specs.Reading.{ReaderGiven, Indicated, first-at}
 use Rattle.states.specs.State.{behind-of}
 
 abbrev pub rest-at : List ℕ → Place → List ℕ
@@ -47,7 +47,7 @@ module _ {rest : List ℕ} (text : List ℕ) (p : Place) (e : rest ≡ drop (p .
 
   -- what readers ask for
 
-  pub rest-given : {used : ℕ} → Stands text p → used < 2 ^ 31 → Given rest (p .mark) used
+  pub rest-given : {used : ℕ} → Stands text p → used < 2 ^ 31 → ReaderGiven rest (p .mark) used
   rest-given h u = record { stands = rest-stands h; room = u }
 
   pub rest-indicated : {used : ℕ} → Stands text p → used < 2 ^ 31 → p .at < length text → getD text (p .at) 0 < 128 → Indicated rest (p .mark) used

@@ -24,15 +24,15 @@ use yaml_text::Mark;
 use yaml_text::Refusal;
 
 pub struct State {
-    // Only blanks stand between the line's start and here.
-    pub leading_whitespace: bool,
-    pub simple_key_allowed: bool,
     // Index + 1 directly after a quoted scalar's or closing bracket's span; 0: none.
     pub adjacent_value_allowed_at: u32,
     pub indents: Indents,
     pub place: Place,
     // Its candidate and its data are in the frame of that number.
     pub flow_level: usize,
+    // Only blanks stand between the line's start and here.
+    pub leading_whitespace: bool,
+    pub simple_key_allowed: bool,
 }
 
 // What was said, with the state behind it; the same at the end of the text; or a refusal.
@@ -103,26 +103,15 @@ impl State {
     }
 
     // At another place, where a simple key is allowed or not.
+    // Put together from its fields, as a mark is: so that each is loaded as it was stored.
     pub fn moved(self, p: Place, leads: bool, allowed: bool) -> Self
         ensures { λ r. ⌜ r ≡ s-moved self p leads allowed ⌝ }
     {
-        let mut s = self;
-        s.place = p;
-        s.leading_whitespace = leads;
-        s.simple_key_allowed = allowed;
-        s
-    }
-
-    // The same state, put together anew, as a mark is.
-    pub fn anew(self) -> Self
-        ensures { λ r. ⌜ r ≡ self ⌝ }
-    {
         let i = self.indents;
-        let p = self.place;
         let m = p.mark;
         State {
-            leading_whitespace: self.leading_whitespace,
-            simple_key_allowed: self.simple_key_allowed,
+            leading_whitespace: leads,
+            simple_key_allowed: allowed,
             adjacent_value_allowed_at: self.adjacent_value_allowed_at,
             indents: Indents {
                 indent: i.indent,
@@ -134,6 +123,14 @@ impl State {
             },
             flow_level: self.flow_level,
         }
+    }
+
+    // The same state, put together anew.
+    pub fn anew(self) -> Self
+        ensures { λ r. ⌜ r ≡ self ⌝ }
+    {
+        let p = self.place;
+        self.moved(p, self.leading_whitespace, self.simple_key_allowed)
     }
 
     pub fn with_indents(self, i: Indents) -> Self

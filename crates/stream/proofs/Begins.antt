@@ -29,12 +29,12 @@ use Rattle.driver.specs.Held.{base-at, held-words, phase-at, put-counts, put-st
 use Rattle.stream.specs.declared.Next.{Next}
 use Rattle.stream.specs.declared.Next.the-variants as next
 use Rattle.stream.specs.Start.{Starts, begun-held, one-counted}
-use Rattle.stream.specs.Words.{no-token, put-refusal}
+use Rattle.stream.specs.Words.{no-token, refused-held}
 use Rattle.stream.proofs.Lends.{sets-all}
 
 -- what the call is answered by a refusal
 abbrev Refuses : List ℕ → List ℕ → List ℕ → Next → Refusal → Type 0
-Refuses h h' r a f = (a ≡ next.Refused f) × (h' ≡ put-refusal h f) × (r ≡ no-token)
+Refuses h h' r a f = (a ≡ next.Refused f) × (h' ≡ refused-held h f) × (r ≡ no-token)
 
 module _ (limits : Limits) (text : List ℕ) (words : ℕ) (h : List ℕ) {h' r : List ℕ} {a : Next} where
   pub too-long : {f : Refusal} → limits .bytes < length text → f ≡ record { number = 1; mark = origin } → Refuses h h' r a f → Starts h h' r a (fresh limits text words)

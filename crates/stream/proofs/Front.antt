@@ -54,7 +54,7 @@ module _ (limits : Limits) (text h l b gone : List ℕ) (all : length h ≡ held
   front-words-length =
       by-pick (λ (w : List ℕ). length w ≡ length l) (ltb (front-base h) (word h counts-at)) (sets l 0 (record-from l (first-at h))) l (length-sets l 0 (record-from l (first-at h))) refl
 
-  module _ {s : definition.State} {n used : ℕ} {xs : List Slot} (m : Modest limits) (c : Scans limits text h l b gone s n xs used) (counted : n + length xs ≡ s .count) where
+  module _ {s : definition.State} {n used : ℕ} {xs : List Slot} (m : Modest limits) (c : Scans limits text h l b gone [] s n xs used) (counted : n + length xs ≡ s .count) where
     slot-is : slot-held h ≡ word h slot-at
     slot-is = at-most-stays (least-records - 1) (word h slot-at) (omega (arith, c .waits .fit))
 
@@ -66,7 +66,7 @@ module _ (limits : Limits) (text h l b gone : List ℕ) (all : length h ≡ held
         omega (arith, count-is, at-most-fits (1 + 512 * at-held text h) (word h counts-at), at-most-fits (length text) (word h state-at), c .lent .short, m .bytes)
 
     base-is : front-base h ≡ n
-    base-is = omega (arith, slot-is, at-most-stays 1_073_741_824 (word h base-at) (omega (arith, c .first, count-few, counted)), c .first)
+    base-is = omega (arith, slot-is, at-most-stays 1_073_741_824 (word h base-at) (omega (arith, c .first, count-few, counted)), c .first, c .waits .until)
 
     pub front-base-is : word (front-held h) base-at ≡ n
     front-base-is = base-word ∙ base-is

@@ -1,4 +1,4 @@
--- What the parts of a call leave in the words that they are lent.
+-- What the parts of a call leave in the words that they are lent, and what they answer.
 use Prim.Native.Nat.{_*_, _+_, _-_, _<_, _≤_, ℕ}
 use mathlib.Core.Bool.{false, true}
 use mathlib.Core.List.{List, append-nil}
@@ -7,8 +7,9 @@ use native.Mathlib.Omega.{arith}
 use lib.Dec.{eqb, ltb}
 use lib.ListN.{drop, drop-of-length-le, length, length-drop, length-set, set}
 use lib.Seq.{getD-set-other, length-take-le, sets, sets-eq}
-use borrow.Author.Tests.{le-ltb, lt-ltb, ne-eqb}
-use Rattle.yaml_text.specs.Test.{by-test}
+use borrow.Author.Tests.{le-ltb, lt-ltb, ltb-false, ltb-true, ne-eqb}
+use Rattle.yaml_text.specs.declared.Refusal.{Refusal}
+use Rattle.yaml_text.specs.Test.{by-test, true-false}
 use Rattle.yaml_lexeme.specs.declared.Kind.the-variants as held
 use Rattle.yaml_lexeme.specs.Record.{laid, number-of, record-words}
 use Rattle.yaml_lexeme.specs.Token.{Key}
@@ -19,7 +20,8 @@ use Rattle.records.specs.Note.{empty-at, note-in, noted-word}
 use Rattle.sink.specs.Settle.{opener}
 use Rattle.events.specs.declared.Counts.{Counts}
 use Rattle.driver.specs.Held.{base-at, counts-at, held-words, mark-at, number-at, phase-at, slot-at, until-at, word}
-use Rattle.stream.specs.Words.{Gives, close-held, first-at, first-number, front-base, front-held, front-words, no-token, note-left, own, record-from, slot-held, token-words, words-left}
+use Rattle.stream.specs.declared.Next.the-variants as next
+use Rattle.stream.specs.Words.{Gives, close-held, first-at, first-number, front-base, front-held, front-words, has-some, last-held, no-token, note-left, own, record-from, refusal-held, slot-held, token-words, words-left}
 
 -- a whole record is written over
 pub sets-all : (t x : List ℕ) → length x ≡ length t → sets t 0 x ≡ x
@@ -124,6 +126,35 @@ refusal-room h i l c e =
 
 pub closed : (h : List ℕ) (m : Counts) {k : ℕ} → k ≡ at-most (m .count) (word (set h phase-at 2) base-at) → set (set h phase-at 2) until-at (m .count - k) ≡ close-held h m
 closed h m e = rw (e, getD-set-other h phase-at base-at 2 0 (λ i. omega arith))
+
+-- whether a token can be given
+
+pub has-none : (h : List ℕ) (n : ℕ) → n < least-records * record-words → false ≡ has-some h n
+unfolding has-some
+has-none h n e = rw (lt-ltb n (least-records * record-words) e)
+
+pub has-asked : (h : List ℕ) (n : ℕ) → least-records * record-words ≤ n → ltb (word h slot-at) (word h until-at) ≡ has-some h n
+unfolding has-some
+has-asked h n e = rw (le-ltb n (least-records * record-words) e)
+
+pub some-told : (h : List ℕ) (n : ℕ) → has-some h n ≡ true → (least-records * record-words ≤ n) × (word h slot-at < word h until-at)
+some-told h n s =
+    by-test (ltb n (least-records * record-words))
+    (λ e. true-false (sym s ∙ sym (has-none h n (ltb-true n (least-records * record-words) e))))
+    (λ e. let o = ltb-false n (least-records * record-words) e in (o, ltb-true (word h slot-at) (word h until-at) (has-asked h n o ∙ s)))
+
+pub none-told : (h : List ℕ) (n : ℕ) → has-some h n ≡ false → least-records * record-words ≤ n → word h until-at ≤ word h slot-at
+none-told h n s o = ltb-false (word h slot-at) (word h until-at) (has-asked h n o ∙ s)
+
+-- what is said where none can
+
+pub last-ended : (h : List ℕ) → word h phase-at ≡ 2 → next.Ended ≡ last-held h
+unfolding last-held
+last-ended h e = rw e
+
+pub last-refused : (h : List ℕ) {f : Refusal} → (word h phase-at ≡ 2 → ⊥) → f ≡ refusal-held h → next.Refused f ≡ last-held h
+unfolding last-held
+last-refused h d e = rw (ne-eqb (word h phase-at) 2 d, e)
 
 pub note-some : (n : ℕ) → 1 < n → 1 ≡ note-left n
 unfolding note-left

@@ -7,7 +7,6 @@ pub mod Breaks
 pub mod Starts
 pub mod Begins
 pub mod Front
-pub mod Ends
 pub mod Pauses
 pub mod Scanned
 pub mod Called

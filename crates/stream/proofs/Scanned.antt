@@ -1,116 +1,76 @@
--- A call that has to scan: the loop of steps comes to what the definition seeks, and what it stored is what waits there. So the first of it is given.
+-- Steps were made where nothing could be given: the stream is held as before, with the tokens that its next calls give. For what the steps stored is
+-- what waits, in the definition too; and what they came to is what calls come to behind those tokens.
 use Prim.Native.Nat.{_*_, _+_, _-_, _<_, _≤_, suc, zero, ℕ}
-use mathlib.Core.Bool.{Bool, false, not, true}
-use mathlib.Core.List.{List, [], _++_, _∷_}
+use mathlib.Core.Bool.{false, true}
+use mathlib.Core.List.{List, [], _++_, _∷_, append-nil}
 use mathlib.Core.Path.{_∙_, _≡_, ap, refl, subst, sym}
 use native.Mathlib.Omega.{arith}
-use lib.Dec.{ltb}
-use lib.ListN.{drop, getD, length, length-append, length-set, length-take, set, take}
-use lib.Seq.{getD-drop, getD-set-other, getD-set-same, take-at, take-take}
-use borrow.Author.Tests.{ltb-false, ltb-true}
+use lib.ListN.{drop, getD, length, length-append, length-set, length-take, set, take, take-append-drop}
+use lib.Seq.{getD-drop, getD-set-other, getD-set-same, length-take-le}
+use borrow.Author.Tests.{lt-ltb}
 use Rattle.yaml_text.specs.declared.Refusal.{Refusal}
-use Rattle.yaml_text.specs.Pick.{pick}
 use Rattle.yaml_text.specs.PlaceLaws.{left}
-use Rattle.yaml_text.specs.Test.{by-test, true-false}
+use Rattle.yaml_text.specs.Test.{true-false}
 use Rattle.yaml_lexeme.specs.Record.{record-words}
 use Rattle.yaml_scan.specs.declared.Limits.{Limits}
 use Rattle.yaml_scan.specs.State as definition
-use Rattle.yaml_scan.specs.State.{Event, mark-of, puts}
+use Rattle.yaml_scan.specs.State.{Event, mark-of}
 use Rattle.yaml_scan.specs.Slots.{Slot}
 use Rattle.yaml_stream.specs.Between.{to-scan}
 use Rattle.yaml_stream.specs.Noted.{Noted, reached-noted}
-use Rattle.yaml_stream.specs.Seeks.{call-here}
-use Rattle.yaml_stream.specs.Stream.{Called, Stream, brings, broken, budget, call, closing, fresh, give, least-records, possible, ready, scanning, sought, waits}
-use Rattle.yaml_stream.specs.Waiting.{Held, Reaches, fresh-keeps, reaches-keeps, sought-reaches}
+use Rattle.yaml_stream.specs.Notes.{AllNoted}
+use Rattle.yaml_stream.specs.Stream.{Stream, brings, fresh, least-records, scanning, waits}
+use Rattle.yaml_stream.specs.Waiting.{Held, StreamReaches, fresh-keeps, reaches-keeps}
 use Rattle.yaml_stream.specs.Waits.{waits-length}
-use Rattle.stacks.specs.Frame.{frame-levels}
 use Rattle.stacks.specs.Most.{at-most, at-most-stays}
 use Rattle.stacks.specs.Stack.{stack-words}
 use Rattle.events.specs.declared.Counts.{Counts}
 use Rattle.states.specs.State.{state-of}
 use Rattle.sink.specs.SlotWords.{slot-texts, used-by}
-use Rattle.sink.specs.SlotsSettled.{flat-least}
 use Rattle.sink.specs.Stored.{Stored}
+use Rattle.stream_laws.specs.declared.Pending.{Pending}
 use Rattle.stream_laws.specs.Driven.{Driven, driven, ends, one-by-one, pauses, stops}
-use Rattle.stream_laws.specs.Laid.{Laid, laid-then, used-then}
-use Rattle.stream_laws.specs.Notes.{all-noted}
-use Rattle.stream_laws.specs.Sought.{Finds, Setting, brings-texts, call-finds, level-from, test}
+use Rattle.stream_laws.specs.Laid.{Laid, laid-first, laid-then, used-then}
+use Rattle.stream_laws.specs.Loop.{call-finds}
+use Rattle.stream_laws.specs.Sought.{Finds, Setting, brings-texts, level-from, test}
 use Rattle.driver.specs.declared.Outcome.{Outcome}
 use Rattle.driver.specs.declared.Outcome.the-variants.{Ready, Scanned, Stopped}
-use Rattle.driver.specs.Drives.{Drives, PausesAs, StopsAs, base-held, drives, level-held}
-use Rattle.driver.specs.Held.{Modest, base-at, counts-held, held-words, phase-at, seen-held, slot-at, stacks-held, state-held, until-at, waiting-at, word}
-use Rattle.stream.specs.declared.Next.{Next}
-use Rattle.stream.specs.Holds.{Calls, Closes, Holds, Lent, Says, Scans, Until, text-given}
-use Rattle.stream.specs.ScansOn.{ScanSays, ScansOn}
-use Rattle.stream.specs.Words.{close-held, front-held, front-words}
-use Rattle.stream.proofs.Breaks.{broken-answer, broken-call, refusal-held}
-use Rattle.stream.proofs.Ends.{Some, driven-some}
+use Rattle.driver.specs.Drives.{Drives, PausesAs, StopsAs, base-held, drives}
+use Rattle.driver.specs.Held.{Modest, base-at, counts-held, held-words, level-at, pending-held, phase-at, put-until, seen-held, slot-at, until-at, word}
+use Rattle.stream.specs.Holds.{Holds, Lent, Scans, Waits, breaks, closes, scans}
+use Rattle.stream.specs.ScansOn.{ScansOn, then-held}
+use Rattle.stream.specs.Words.{close-held, front-held, front-words, has-some, put-refusal}
+use Rattle.stream.proofs.Breaks.{refusal-is, refusal-other, refusal-phase}
 use Rattle.stream.proofs.Front.{front-base-is, front-length, front-other, front-seen, front-slot, front-slots, front-words-length}
-use Rattle.stream.proofs.Gives.{closes-give, scans-give}
-use Rattle.stream.proofs.Pauses.{held-length, pause-scans}
+use Rattle.stream.proofs.Lends.{has-asked}
+use Rattle.stream.proofs.Pauses.{paused-counts, paused-level, paused-other, paused-seen, paused-until}
 
--- nothing can be given
-nothing-first : (p : Bool) (slot until k : ℕ) → Until p until (slot + k) → until ≤ slot → 1 ≤ k → (p ≡ true) × (k ≡ 1)
-nothing-first true slot until k u h o = (refl, omega arith)
-nothing-first false slot until k u h o = absurd (omega arith)
+-- the stream is held, and where none can be given nothing is left to scan
+pub record Onward (limits : Limits) (text h l b gone : List ℕ) (x : Stream) : Type 0 where
+  pub holds : Holds limits text h l b gone x
+  pub done : has-some h (length l) ≡ false → 1 < word h phase-at
 
-idle-ready : (s : definition.State) (n used slot until : ℕ) (xs : List Slot) → n + length xs ≡ s .count → Until (possible (s .count - 1) (s .keys)) until (slot + length xs) → until ≤ slot
-    → ready (scanning s n xs used) ≡ false
-unfolding ready
-idle-ready s n used slot until [] c u h = refl
-idle-ready s n used slot until (x ∷ xs) c u h =
-    let f = nothing-first (possible (s .count - 1) (s .keys)) slot until (length (x ∷ xs)) u h (omega arith) in
-    let i : s .count - 1 ≡ n = omega (arith, f .1) in
-    let p : possible n (s .keys) ≡ true = rw i at (f .0) in
-    rw p
+noted-take : (j : ℕ) (ys : List Slot) → AllNoted ys → AllNoted (take j ys)
+noted-take zero [] k = tt
+noted-take zero (y ∷ ys) k = tt
+noted-take (suc j) [] k = tt
+noted-take (suc j) (y ∷ ys) k = (k .0, noted-take j ys (k .1))
 
--- something can be given
-record Free (s : definition.State) (n : ℕ) (xs : List Slot) : Type 0 where
-  some : 1 ≤ length xs
-  free : possible n (s .keys) ≡ false
+-- words that stay behind the stacks
+word-kept : (h h' : List ℕ) (j : ℕ) → drop stack-words h' ≡ drop stack-words h → word h' (stack-words + j) ≡ word h (stack-words + j)
+word-kept h h' j e = sym (getD-drop stack-words h' j 0) ∙ ap (λ (z : List ℕ). getD z j 0) e ∙ getD-drop stack-words h j 0
 
-not-true : (p : Bool) → not p ≡ true → p ≡ false
-not-true true e = true-false (sym e)
-not-true false e = refl
+-- what was stored from slot 0 on waits
+laid-waits : (h l b gone : List ℕ) (gs xs ys : List Slot) → gs ++ xs ≡ ys → word h slot-at ≡ 0 → word h until-at ≡ length gs → length ys ≤ 4_383 → Laid l b gone ys → AllNoted gs
+    → Waits h l b gone gs xs
+laid-waits h l b gone gs xs ys e s u few z k =
+    let i : word h slot-at * record-words ≡ 0 = omega arith in
+    record { fit = rw e (omega arith); slots = rw (e, i) (z .slots); texts = rw e (z .texts); until = omega arith; noted = k }
 
-ready-free : (s : definition.State) (n used : ℕ) (xs : List Slot) → ready (scanning s n xs used) ≡ true → Free s n xs
-unfolding ready
-ready-free s n used [] e = true-false (sym e)
-ready-free s n used (x ∷ xs) e = record { some = omega arith; free = not-true (possible n (s .keys)) e }
-
-until-more : (p : Bool) (slot until k : ℕ) → Until p until (slot + k) → 1 ≤ k → (p ≡ true → 2 ≤ k) → slot < until
-until-more true slot until k u o h = let i = h refl in omega arith
-until-more false slot until k u o h = omega arith
-
-free-until : (s : definition.State) (n slot until : ℕ) (xs : List Slot) → n + length xs ≡ s .count → Free s n xs → Until (possible (s .count - 1) (s .keys)) until (slot + length xs) → slot < until
-free-until s n slot until xs c f u =
-    until-more (possible (s .count - 1) (s .keys)) slot until (length xs) u (f .some)
-    (λ p. by-test (ltb 1 (length xs))
-    (λ e. omega (arith, ltb-true 1 (length xs) e))
-    (λ e. let g = ltb-false 1 (length xs) e in let i : s .count - 1 ≡ n = omega (arith, f .some) in let q : possible n (s .keys) ≡ true = rw i at p in true-false (sym q ∙ f .free)))
-
-levels-count : (a : List ℕ) (d : ℕ) → length (frame-levels a d) ≡ d
-unfolding frame-levels
-levels-count a zero = refl
-levels-count a (suc d) = ap suc (levels-count a d)
-
--- a call that is the call of another stream
-calls-as : {limits : Limits} {text b₁ h' l' b' r gone : List ℕ} {a : Next} (b : List ℕ) (x y : Stream) → call limits (length b) x ≡ call limits (length b₁) y
-    → Calls limits text b₁ h' l' b' r a gone y → Calls limits text b h' l' b' r a gone x
-calls-as {limits} {text} {b₁} {h'} {l'} {b'} {r} {gone} {a} b x y e k =
-    record {
-      says = subst (λ (c : Called). Says (length gone) (c .answer) r a) (sym e) (k .says);
-      holds = subst (λ (c : Called). Holds limits text h' l' b' (gone ++ text-given (c .answer)) (c .stream)) (sym e) (k .holds);
-    }
-
-module _ (limits : Limits) (text h l b gone : List ℕ) (s : definition.State) (n used : ℕ) (xs : List Slot) (m : Modest limits) (entries : 1 ≤ limits .entries) (all : length h ≡ held-words)
-    (reach : Reaches limits (length b) (fresh limits text (length l)) (scanning s n xs used)) (c : Scans limits text h l b gone s n xs used)
-    (idle : word h until-at ≤ word h slot-at) where
+module _ (limits : Limits) (text h l b gone : List ℕ) (s : definition.State) (n used : ℕ) (xs : List Slot) (m : Modest limits) (entries : 1 ≤ limits .entries)
+    (all : length h ≡ held-words) (reach : StreamReaches limits (length b) (fresh limits text (length l)) (scanning s n xs used)) (c : Scans limits text h l b gone [] s n xs used) where
   abbrev x : Stream
   x = scanning s n xs used
-
-  abbrev y : Stream
-  y = sought limits (length b) (budget x) x
 
   abbrev q : Setting
   q = record { limits = limits; text = text; words = length l; room = length b; some-entries = entries; few-entries = m .entries }
@@ -120,9 +80,6 @@ module _ (limits : Limits) (text h l b gone : List ℕ) (s : definition.State) (
 
   noted : Noted s n xs
   noted = reached-noted limits text (length l) (length b) reach
-
-  scans-first : ready x ≡ false
-  scans-first = idle-ready s n used (word h slot-at) (word h until-at) xs (kept .counted) (c .until) idle
 
   fits : used ≤ length b
   fits = omega (arith, c .used-so-far, ap length (c .waits .texts), length-append gone (slot-texts xs), length-take (length gone + used-by xs) b)
@@ -138,8 +95,12 @@ module _ (limits : Limits) (text h l b gone : List ℕ) (s : definition.State) (
   abbrev c1 : Counts
   c1 = counts-held text h1
 
-  abbrev level : ℕ
-  level = level-from (at-most 255 (word h waiting-at)) s n
+  -- what is pending
+  abbrev w1 : Pending
+  w1 = record { number = n; level = level-from (c .level) s n; «put_in» = c1 .«put_in» }
+
+  whole1 : length h1 ≡ held-words
+  whole1 = front-length limits text h l b gone all
 
   seen1 : seen-held limits text h1 ≡ s
   seen1 = front-seen limits text h l b gone all .seen ∙ c .seen
@@ -153,47 +114,31 @@ module _ (limits : Limits) (text h l b gone : List ℕ) (s : definition.State) (
   base-word : word h1 base-at ≡ n
   base-word = front-base-is limits text h l b gone all m c (kept .counted)
 
+  slot-word : word h1 slot-at ≡ 0
+  slot-word = front-slot limits text h l b gone all
+
   base1 : base-held text h1 ≡ n
   base1 = ap (λ (k : ℕ). at-most (c1 .count) k) base-word ∙ at-most-stays (c1 .count) n (omega (arith, count1, kept .counted))
 
-  level1 : level-held limits text h1 ≡ level
-  unfolding level-held
-  level1 =
-      let f = state-held limits text h1 .«flow_level» in
-      let g : f ≡ length (s .levels) = sym (levels-count (stacks-held h1) f) ∙ ap (λ (t : definition.State). length (t .levels)) seen1 in
-      ap (λ (k : ℕ). pick {A = ℕ} (ltb k (c1 .count)) (at-most 255 (word h1 waiting-at)) f) base1
-      ∙ ap (λ (k : ℕ). pick {A = ℕ} (ltb n k) (at-most 255 (word h1 waiting-at)) f) count1
-      ∙ ap (λ (k : ℕ). pick {A = ℕ} (ltb n (s .count)) (at-most 255 k) f) (front-other limits text h l b gone all waiting-at (λ i. omega arith) (λ i. omega arith))
-      ∙ ap (λ (k : ℕ). pick {A = ℕ} (ltb n (s .count)) (at-most 255 (word h waiting-at)) k) g
+  level1 : at-most 255 (word h1 level-at) ≡ level-from (c .level) s n
+  level1 = ap (at-most 255) (front-other limits text h l b gone all level-at (λ i. omega arith) (λ i. omega arith)) ∙ c .on-level
 
-  drives1 : drives limits true text (length b) h1 ≡ driven limits (test q n level c1) (suc (left (s .place))) s c1
+  drives1 : drives limits true text (length b) h1 ≡ driven limits (test q n) (suc (left (s .place))) w1 s c1
   drives1 =
       let t1 = seen-held limits text h1 in
-      ap (λ (k : ℕ). driven limits (λ t v. one-by-one (length b) k (level-held limits text h1) c1 (t .keys) (mark-of t) v) (suc (left (t1 .place))) t1 c1) base1
-      ∙ ap (λ (k : ℕ). driven limits (λ t v. one-by-one (length b) n k c1 (t .keys) (mark-of t) v) (suc (left (t1 .place))) t1 c1) level1
-      ∙ ap (λ (t : definition.State). driven limits (test q n level c1) (suc (left (t .place))) t c1) seen1
+      ap (λ (k : ℕ). driven limits (λ w level t v. one-by-one (length b) k w level (t .keys) (length (t .levels)) (mark-of t) v) (suc (left (t1 .place))) (pending-held h1 k c1) t1 c1) base1
+      ∙ ap (λ (k : ℕ). driven limits (test q n) (suc (left (t1 .place))) (record { number = n; level = k; «put_in» = c1 .«put_in» }) t1 c1) level1
+      ∙ ap (λ (t : definition.State). driven limits (test q n) (suc (left (t .place))) w1 t c1) seen1
 
   -- what it comes to
 
-  found : (d : Driven) → drives limits true text (length b) h1 ≡ d → Finds q n (drop n (noted .all)) xs used d y
+  found : (d : Driven) → drives limits true text (length b) h1 ≡ d → Finds q n (drop n (noted .all)) xs used x d
   found d e =
-      subst (λ (v : Driven). Finds q n (drop n (noted .all)) xs used v y) (sym drives1 ∙ e)
-      (call-finds q used c1 reach noted (c .between) scans-first fits count1 used1)
-
-  found-call : (z : Stream) → y ≡ z → ready z ≡ true → call limits (length b) x ≡ call limits (length b) z
-  unfolding call
-  found-call z e f = ap (λ (v : Stream). give v) e ∙ sym (call-here limits (length b) z f)
-
-  found-reaches : (z : Stream) (b' l' : List ℕ) → y ≡ z → length b' ≡ length b → length l' ≡ length l → Reaches limits (length b') (fresh limits text (length l')) z
-  found-reaches z b' l' e f g = rw (f, g, ← e) (sought-reaches limits (length b) (budget x) x reach)
+      subst (λ (v : Driven). Finds q n (drop n (noted .all)) xs used x v) (sym drives1 ∙ e)
+      (call-finds q used c1 w1 reach noted (c .between) (c .idle) fits count1 used1 refl)
 
   laid1 : Laid l1 b gone xs
-  laid1 =
-      record {
-        slots = front-slots limits text h l b gone all m c (kept .counted) (to-scan used (kept .counted) (c .between) scans-first);
-        noted = all-noted xs (noted .noted);
-        texts = c .waits .texts;
-      }
+  laid1 = record { slots = front-slots limits text h l b gone all m c (kept .counted) (to-scan used (kept .counted) (c .between) (c .idle)); texts = c .waits .texts }
 
   room1 : least-records * record-words ≤ length l1
   room1 = omega (arith, c .lent .records, front-words-length limits text h l b gone all)
@@ -204,120 +149,113 @@ module _ (limits : Limits) (text h l b gone : List ℕ) (s : definition.State) (
   counted1 : n + length xs ≡ c1 .count
   counted1 = kept .counted ∙ sym count1
 
-  lent-then : (l' : List ℕ) → length l' ≡ length l → Lent limits text l'
-  lent-then l' e = record { short = c .lent .short; records = rw e (c .lent .records) }
+  module _ (h' l' b' held : List ℕ) (same-words : length l' ≡ length l1) (same-bytes : length b' ≡ length b) where
+    words-length : length l' ≡ length l
+    words-length = same-words ∙ front-words-length limits text h l b gone all
 
-  module _ (h' l' b' r : List ℕ) (a : Next) (held words : List ℕ) (words-kept : length words ≡ length l1) (bytes-kept : length b' ≡ length b) where
-    words-length : length words ≡ length l
-    words-length = words-kept ∙ front-words-length limits text h l b gone all
+    lent-then : Lent limits text l'
+    lent-then = record { short = c .lent .short; records = rw words-length (c .lent .records) }
 
-    -- a refusal: the texts of what was given stay
-    stopped : (f : Refusal) → StopsAs (drives limits true text (length b) h1) c1 f h1 l1 b held words b' → ScanSays held words h' l' r (Stopped f) a → Calls limits text b h' l' b' r a gone x
-    unfolding ready
-    stopped f d w =
-        let e = found (stops (f .number) (f .mark)) (d .same) in
-        let u : take (c1 .used) b ≡ gone ++ slot-texts xs = rw so-far (c .waits .texts) in
-        let t : take (length gone) b' ≡ gone =
-        sym (take-take (length gone) (c1 .used) b' (omega (arith, so-far))) ∙ ap (λ (z : List ℕ). take (length gone) z) (d .front ∙ u) ∙ take-at gone (slot-texts xs) (length gone) refl in
-        broken-answer x (found-call (broken (f .number) (f .mark)) e refl ∙ broken-call limits (length b) (f .number) (f .mark))
-        (rw (w .1) (refusal-held held f (d .held-length ∙ front-length limits text h l b gone all) t)) (w .0) (w .2)
+    -- a refusal, behind the tokens that can be given before it
+    stopped : (f : Refusal) → StopsAs (drives limits true text (length b) h1) n c1 f h1 l1 b held l' b' → h' ≡ put-refusal held f → Onward limits text h' l' b' gone x
+    stopped f d i =
+        let es = d .said in
+        let w = d .pending in
+        let j = w .number - n in
+        let ys = waits n xs es in
+        let gs = take j ys in
+        let e = found (stops es w (f .number) (f .mark)) (d .same) in
+        let o : j ≤ length ys = omega (arith, e .within) in
+        let z = laid-first gone (noted .holds-last) (e .said) counted1 so-far (d .stored) room1 laid1 j b' o (omega (arith, e .fits, c .used-so-far)) (d .texts) in
+        let whole : length held ≡ held-words = d .held-length ∙ whole1 in
+        let slot : word (put-refusal held f) slot-at ≡ 0 =
+        refusal-other held f whole slot-at (omega arith) (omega arith) ∙ word-kept (put-until h1 n w) held 2 (d .held) ∙ getD-set-other h1 until-at slot-at j 0 (λ k. omega arith) ∙ slot-word in
+        let until : word (put-refusal held f) until-at ≡ length gs =
+        refusal-other held f whole until-at (omega arith) (omega arith) ∙ word-kept (put-until h1 n w) held 3 (d .held) ∙ getD-set-same h1 until-at j 0 (omega (arith, whole1))
+        ∙ sym (length-take-le j ys o) in
+        let p = refusal-phase held f whole in
+        rw i (record {
+          holds = breaks (rw (sym same-bytes) at (e .given-free)) (rw (sym same-bytes) at (e .refusal-next)) (record {
+            phase = omega arith;
+            is = refusal-is held f whole;
+            waits = laid-waits (put-refusal held f) l' b' gone gs [] gs (append-nil gs) slot until (omega (arith, length-take-le j ys o, e .said .few)) z (noted-take j ys (e .noted));
+            records = λ _. lent-then .records;
+          });
+          done = λ _. omega arith;
+        })
 
     -- StreamEnd was scanned
-    module _ (k : Counts) (es : List Event) (d : drives limits true text (length b) h1 ≡ ends es) (st : Stored n c1 k l1 b words b' es)
-        (behind-kept : drop stack-words held ≡ drop stack-words h1) (long : length held ≡ length h1) where
-      abbrev ys : List Slot
-      ys = waits n xs es
-
-      held-word : (j : ℕ) → word held (stack-words + j) ≡ word h1 (stack-words + j)
-      held-word j = sym (getD-drop stack-words held j 0) ∙ ap (λ (z : List ℕ). getD z j 0) behind-kept ∙ getD-drop stack-words h1 j 0
-
-      held-whole : length held ≡ held-words
-      held-whole = long ∙ front-length limits text h l b gone all
-
-      abbrev ending : List ℕ
-      ending = set held phase-at 2
-
-      abbrev last : ℕ
-      last = k .count - at-most (k .count) (word held base-at)
-
-      ending-length : length (close-held held k) ≡ held-words
-      ending-length = length-set ending until-at last ∙ length-set held phase-at 2 ∙ held-whole
-
-      ending-phase : word (close-held held k) phase-at ≡ 2
-      ending-phase = getD-set-other ending until-at phase-at last 0 (λ i. omega arith) ∙ getD-set-same held phase-at 2 0 (omega (arith, held-whole))
-
-      ending-slot : word (close-held held k) slot-at ≡ 0
-      ending-slot =
-          getD-set-other ending until-at slot-at last 0 (λ i. omega arith) ∙ getD-set-other held phase-at slot-at 2 0 (λ i. omega arith) ∙ held-word 2
-          ∙ front-slot limits text h l b gone all
-
-      count-then : k .count ≡ n + length ys
-      count-then = omega (arith, st .counts .count, counted1, waits-length n xs es)
-
-      ending-until : word (close-held held k) until-at ≡ length ys
-      ending-until =
-          let i : word held base-at ≡ n = held-word 1 ∙ base-word in
-          getD-set-same ending until-at last 0 (omega (arith, held-whole, length-set held phase-at 2))
-          ∙ ap (λ (z : ℕ). k .count - at-most (k .count) z) i ∙ ap (λ (z : ℕ). k .count - z) (at-most-stays (k .count) n (omega (arith, count-then))) ∙ omega (arith, count-then)
-
-      some-ends : 1 ≤ length ys
-      some-ends =
-          let i : 1 ≤ puts es = subst (λ (v : Driven). Some v) (sym drives1 ∙ d) (driven-some limits (test q n level c1) (suc (left (s .place))) s c1) in
-          omega (arith, waits-length n xs es)
-
-      pub scanned : ScanSays held words h' l' r (Scanned k) a → Calls limits text b h' l' b' r a gone x
-      unfolding ready
-      scanned w =
-          let e = found (ends es) d in
-          let z = laid-then gone (noted .holds-last) (e .1) counted1 so-far st room1 (omega (arith, e .2, used1)) laid1 in
-          let i : word (close-held held k) slot-at * record-words ≡ 0 = omega (arith, ending-slot) in
-          let o : Closes limits text (close-held held k) words b' gone ys = record {
-            phase = ending-phase;
-            waits = record { fit = omega (arith, ending-slot, flat-least ys, e .1 .few); slots = rw i (z .slots); texts = z .texts };
-            until = ending-until ∙ omega (arith, ending-slot);
-            lent = lent-then words words-length;
-          } in
-          rw (w .0) (calls-as b x (closing ys) (found-call (closing ys) (e .0) refl ∙ ap (λ (j : ℕ). call limits j (closing ys)) (sym bytes-kept))
-          (closes-give limits text (close-held held k) words b' gone h' l' r ending-length (w .1) (found-reaches (closing ys) b' words (e .0) bytes-kept words-length) o
-          (omega (arith, ending-slot, ending-until, some-ends))))
+    scanned : (k : Counts) (es : List Event) → drives limits true text (length b) h1 ≡ ends es → Stored n c1 k l1 b l' b' es → drop stack-words held ≡ drop stack-words h1
+        → length held ≡ length h1 → h' ≡ close-held held k → Onward limits text h' l' b' gone x
+    scanned k es d st same long i =
+        let ys = waits n xs es in
+        let e = found (ends es) d in
+        let z = laid-then gone (noted .holds-last) (e .said) counted1 so-far st room1 laid1 (omega (arith, e .fits, used1)) in
+        let ending = set held phase-at 2 in
+        let last = k .count - at-most (k .count) (word held base-at) in
+        let phase : word (close-held held k) phase-at ≡ 2 =
+        getD-set-other ending until-at phase-at last 0 (λ o. omega arith) ∙ getD-set-same held phase-at 2 0 (omega (arith, whole1)) in
+        let slot : word (close-held held k) slot-at ≡ 0 =
+        getD-set-other ending until-at slot-at last 0 (λ o. omega arith) ∙ getD-set-other held phase-at slot-at 2 0 (λ o. omega arith) ∙ word-kept h1 held 2 same ∙ slot-word in
+        let count : k .count ≡ n + length ys = omega (arith, st .counts .count, counted1, waits-length n xs es) in
+        let base : word held base-at ≡ n = word-kept h1 held 1 same ∙ base-word in
+        let until : word (close-held held k) until-at ≡ length ys =
+        getD-set-same ending until-at last 0 (omega (arith, whole1, length-set held phase-at 2))
+        ∙ ap (λ (o : ℕ). k .count - at-most (k .count) o) base ∙ ap (λ (o : ℕ). k .count - o) (at-most-stays (k .count) n (omega arith)) ∙ omega arith in
+        rw i (record {
+          holds = closes (rw (sym same-bytes) at (e .given-all)) (record {
+            phase = phase;
+            waits = laid-waits (close-held held k) l' b' gone ys [] ys (append-nil ys) slot until (e .said .few) z (e .noted);
+            lent = lent-then;
+          });
+          done = λ _. omega arith;
+        })
 
     -- a pause
-    pub paused : PausesAs limits text (drives limits true text (length b) h1) n c1 h1 l1 b held words b' → ScanSays held words h' l' r Ready a → Calls limits text b h' l' b' r a gone x
-    paused p w =
+    paused : PausesAs limits text (drives limits true text (length b) h1) n c1 h1 l1 b held l' b' → h' ≡ held → Onward limits text h' l' b' gone x
+    paused p i =
         let es = p .said in
-        let zs = waits n xs es in
+        let w = p .pending in
+        let j = w .number - n in
+        let ys = waits n xs es in
+        let gs = take j ys in
         let k = p .counts in
         let t = state-of text (p .stacks) (k .count) (p .state) in
-        let e = found (pauses es (p .level) t) (p .same) in
-        let v = e .2 in
-        let then-used = used + brings es in
-        let z = laid-then gone (noted .holds-last) (e .1) counted1 so-far (p .stored) room1 (omega (arith, v .fits, used1)) laid1 in
-        let i : n + length zs ≡ k .count = reaches-keeps limits (length b) (fresh-keeps limits text (length l)) (v .comes) .counted in
-        let f = ready-free t n then-used zs (v .is-ready) in
-        let u : then-used ≡ k .used = omega (arith, p .stored .counts .used, used1, brings-texts es) in
-        let len = front-length limits text h l b gone all in
-        let phase = front-other limits text h l b gone all phase-at (λ j. omega arith) (λ j. omega arith) ∙ c .phase in
-        let few : length zs < least-records = omega (arith, flat-least zs, e .1 .few) in
-        let sf = used-then gone (noted .holds-last) (e .1) counted1 so-far (p .stored) in
-        let lent = lent-then words words-length in
-        let o : Scans limits text held words b' gone t n zs then-used =
-        pause-scans h1 held n (p .level) m len (p .given) (p .kept) (p .held) words b' gone zs then-used phase base-word (front-slot limits text h l b gone all) (v .between) i (f .some) few
-        (z .slots) (z .texts) sf lent u in
-        rw (w .0) (calls-as b x (scanning t n zs then-used)
-        (found-call (scanning t n zs then-used) (e .0) (v .is-ready) ∙ ap (λ (j : ℕ). call limits j (scanning t n zs then-used)) (sym bytes-kept))
-        (scans-give limits text held words b' gone h' l' r (held-length h1 held n (p .level) m len (p .given) (p .kept) (p .held)) (w .1)
-        (found-reaches (scanning t n zs then-used) b' words (e .0) bytes-kept words-length) o
-        (free-until t n (word held slot-at) (word held until-at) zs i f (o .until))))
+        let e = found (pauses es w t) (p .same) in
+        let d = e .idle in
+        let z = laid-then gone (noted .holds-last) (e .said) counted1 so-far (p .stored) room1 laid1 (omega (arith, d .fits, used1)) in
+        let o : j ≤ length ys = omega (arith, e .within) in
+        let u : k .used ≡ used + brings es = omega (arith, p .stored .counts .used, used1, brings-texts es) in
+        let split : gs ++ drop j ys ≡ ys = take-append-drop j ys in
+        let slot : word held slot-at ≡ 0 = paused-other h1 held n w whole1 (p .given) (p .kept) (p .held) 2 (omega arith) ∙ slot-word in
+        let until : word held until-at ≡ j = paused-until h1 held n w whole1 (p .given) (p .kept) (p .held) in
+        let base : word held base-at ≡ n = paused-other h1 held n w whole1 (p .given) (p .kept) (p .held) 1 (omega arith) ∙ base-word in
+        rw i (record {
+          holds = scans (rw (sym same-bytes, sym words-length) at (d .comes)) (rw (sym same-bytes) at (e .given-free)) (record {
+            phase = paused-other h1 held n w whole1 (p .given) (p .kept) (p .held) 0 (omega arith) ∙ front-other limits text h l b gone all phase-at (λ a. omega arith) (λ a. omega arith) ∙ c .phase;
+            seen = paused-seen h1 held n w whole1 (p .given) (p .kept) (p .held);
+            used-held = ap (λ (v : Counts). v .used) (paused-counts h1 held n w whole1 (p .given) (p .kept) (p .held)) ∙ u;
+            used-so-far = sym u ∙ used-then gone (noted .holds-last) (e .said) counted1 so-far (p .stored) room1 laid1 ∙ ap (λ (v : List Slot). length gone + used-by v) (sym split);
+            first = omega (arith, e .some);
+            waits = laid-waits held l' b' gone gs (drop j ys) ys split slot (until ∙ sym (length-take-le j ys o)) (e .said .few) z (noted-take j ys (e .noted));
+            level = d .level;
+            between = d .between;
+            on-level = ap (at-most 255) (paused-level h1 held n w whole1 (p .given) (p .kept) (p .held)) ∙ at-most-stays 255 (w .level) (p .low) ∙ d .on-level;
+            idle = d .not-ready;
+            lent = lent-then;
+          });
+          done = λ f. true-false (sym (sym (has-asked held (length l') (omega (arith, room1))) ∙ lt-ltb (word held slot-at) (word held until-at) (omega (arith, e .some))) ∙ f);
+        })
 
-  -- the call
-  pub scans-calls : (h' l' b' r : List ℕ) (a : Next) → ScansOn limits text h l b h' l' b' r a → Calls limits text b h' l' b' r a gone x
-  scans-calls h' l' b' r a w = by-outcome (w .outcome) (w .steps) (w .says)
+  -- what scan_on leaves
+  pub scans-on : (h' l' b' : List ℕ) → ScansOn limits text h l b h' l' b' → Onward limits text h' l' b' gone x
+  scans-on h' l' b' w = by-outcome (w .outcome) (w .steps) (w .then)
     where
-      by-outcome : (o : Outcome) → Drives limits true text h1 l1 b (w .held) (w .words) b' o → ScanSays (w .held) (w .words) h' l' r o a → Calls limits text b h' l' b' r a gone x
-      by-outcome (Stopped f) d v = stopped h' l' b' r a (w .held) (w .words) (w .kept .0) (w .kept .1) f d v
-      by-outcome (Scanned k) d v =
-          scanned h' l' b' r a (w .held) (w .words) (w .kept .0) (w .kept .1) k (d .0 .said) (d .0 .same)
-          (subst (λ (i : ℕ). Stored i c1 k l1 b (w .words) b' (d .0 .said)) base1 (d .0 .stored)) (d .1) (d .2) v
-      by-outcome Ready d v =
-          paused h' l' b' r a (w .held) (w .words) (w .kept .0) (w .kept .1)
-          (subst (λ (i : ℕ). PausesAs limits text (drives limits true text (length b) h1) i c1 h1 l1 b (w .held) (w .words) b') base1 d) v
+      by-outcome : (o : Outcome) → Drives limits true text h1 l1 b (w .held) l' b' o → h' ≡ then-held (w .held) o → Onward limits text h' l' b' gone x
+      by-outcome (Stopped f) d i =
+          stopped h' l' b' (w .held) (w .same-words) (w .same-bytes) f (subst (λ (k : ℕ). StopsAs (drives limits true text (length b) h1) k c1 f h1 l1 b (w .held) l' b') base1 d) i
+      by-outcome (Scanned k) d i =
+          scanned h' l' b' (w .held) (w .same-words) (w .same-bytes) k (d .0 .said) (d .0 .same) (subst (λ (j : ℕ). Stored j c1 k l1 b l' b' (d .0 .said)) base1 (d .0 .stored)) (d .1) (d .2) i
+      by-outcome Ready d i =
+          paused h' l' b' (w .held) (w .same-words) (w .same-bytes)
+          (subst (λ (k : ℕ). PausesAs limits text (drives limits true text (length b) h1) k c1 h1 l1 b (w .held) l' b') base1 d) i

@@ -22,28 +22,31 @@ use Rattle.yaml_lexeme.specs.Token.{StreamStart, empty-token, kind-bytes}
 use Rattle.yaml_scan.specs.declared.Candidate.the-variants.{Absent}
 use Rattle.yaml_scan.specs.declared.Limits.{Limits}
 use Rattle.yaml_scan.specs.Scan.{begin}
-use Rattle.yaml_scan.specs.Slots.{slot}
+use Rattle.yaml_scan.specs.Slots.{flat, slot}
+use Rattle.yaml_stream.specs.Ahead.{there}
+use Rattle.yaml_stream.specs.Answers.{refused-again}
 use Rattle.yaml_stream.specs.Between.{begin-between, between-given}
 use Rattle.yaml_stream.specs.Seeks.{call-here}
 use Rattle.yaml_stream.specs.Stream.{Called, Stream, begun, broken, call, called, first-of, fresh, give, least-records, possible, ready, scanning, token, too-few-words}
-use Rattle.yaml_stream.specs.Waiting.{Reaches, here, then-give}
+use Rattle.yaml_stream.specs.Waiting.{StreamReaches, here, then-give}
 use Rattle.chars.specs.Places.{stands-start}
 use Rattle.rooms.specs.Room.{cleared}
 use Rattle.stacks.specs.Frame.{frame-keys, frame-levels, key-at, key-of}
 use Rattle.stacks.specs.Indent.{entries-of}
+use Rattle.stacks.specs.Most.{at-most, at-most-stays}
 use Rattle.stacks.specs.Stack.{frame-at, stack-words}
 use Rattle.stacks.proofs.Entries.{low-start}
 use Rattle.events.specs.Event.{empty-of}
 use Rattle.states.specs.State.{s-begin, state-of}
 use Rattle.storing.specs.Step.{StepGiven}
 use Rattle.sink.specs.SlotWords.{slot-texts, slot-words}
-use Rattle.driver.specs.Held.{Modest, base-at, counts-at, counts-held, held-words, phase-at, put-counts, put-state, seen-held, slot-at, stacks-held, until-at, word}
+use Rattle.driver.specs.Held.{Modest, base-at, counts-at, counts-held, held-words, level-at, phase-at, put-counts, put-state, seen-held, slot-at, stacks-held, until-at, word}
 use Rattle.driver.proofs.Words.{stored-counts, stored-length, stored-other, stored-stacks, stored-state}
 use Rattle.stream.specs.declared.Next.{Next}
 use Rattle.stream.specs.declared.Next.the-variants as next
 use Rattle.stream.specs.Holds.{Calls, Holds, Says, Scans, scans, text-given}
 use Rattle.stream.specs.Start.{Starts, begun-held, one-counted}
-use Rattle.stream.proofs.Breaks.{broken-answer, broken-call, refusal-held}
+use Rattle.stream.proofs.Breaks.{broken-answer, refused-breaks}
 use Rattle.stream.proofs.Kept.{seen-by, seen-set}
 
 module _ (limits : Limits) (text h : List ℕ) (m : Modest limits) (short : length text ≤ 1_048_576) (all : length h ≡ held-words) where
@@ -133,40 +136,43 @@ module _ (limits : Limits) (text h : List ℕ) (m : Modest limits) (short : leng
     same-chars : cs ≡ chars text
     same-chars = all-got (decode-chars 0 origin text) is-text
 
-    reaches-second : Reaches limits (length b) (fresh limits text (length l)) second
-    reaches-second = subst (λ (c : Called). Reaches limits (length b) (fresh limits text (length l)) (c .stream)) first-given (then-give (rw fresh-is here))
+    reaches-second : StreamReaches limits (length b) (fresh limits text (length l)) second
+    reaches-second = subst (λ (c : Called). StreamReaches limits (length b) (fresh limits text (length l)) (c .stream)) first-given (then-give (rw fresh-is here))
 
-    scans-second : Scans limits text (begun-held h) l b [] (begin cs) 1 [] 0
-    unfolding slot-words slot-texts possible
+    scans-second : Scans limits text (begun-held h) l b [] [] (begin cs) 1 [] 0
+    unfolding slot-words slot-texts ready
     scans-second =
         let until-zero = begun-other until-at (omega arith) (λ e. omega arith) (λ e. omega arith) in
         let slot-zero = begun-other slot-at (omega arith) (λ e. omega arith) (λ e. omega arith) in
+        let level-zero = begun-other level-at (omega arith) (λ e. omega arith) (λ e. omega arith) in
         record {
           phase = begun-phase;
           seen = begun-seen ∙ ap (λ (c : List ℕ). begin c) (sym same-chars);
           used-held = ap (λ c. c .used) begun-counts;
           used-so-far = refl;
-          first = omega (arith, begun-base, slot-zero);
-          waits = record { fit = omega (arith, slot-zero); slots = refl; texts = refl };
-          until = omega (arith, until-zero, slot-zero);
+          first = omega (arith, begun-base, until-zero);
+          waits = record { fit = omega (arith, slot-zero); slots = refl; texts = refl; until = omega (arith, until-zero, slot-zero); noted = tt };
+          level = 0;
           between = between-given (begin-between _ cs);
+          on-level = ap (at-most 255) level-zero ∙ at-most-stays 255 0 (omega arith);
+          idle = refl;
           lent = record { short = ltb-false (limits .bytes) (length text) fits; records = ltb-false (length l / record-words) least-records many };
         }
 
     pub started : {h' r : List ℕ} {a : Next} → a ≡ next.Token → h' ≡ begun-held h → r ≡ record-of (empty-of kind.StreamStart origin)
         → Calls limits text b h' l b r a [] (fresh limits text (length l))
-    unfolding laid kind-bytes
+    unfolding laid kind-bytes flat
     started {h'} {r} {a} i e k = rw (fresh-is, e) (record {
       says = subst (λ (c : Called). Says 0 (c .answer) r a) (sym first-call) (i, k);
-      holds = subst (λ (c : Called). Holds limits text (begun-held h) l b (text-given (c .answer)) (c .stream)) (sym first-call) (scans reaches-second scans-second);
+      holds = subst (λ (c : Called). Holds limits text (begun-held h) l b (text-given (c .answer)) (c .stream)) (sym first-call) (scans reaches-second there scans-second);
     })
 
 -- a refusal
 fresh-broken : (limits : Limits) (text h h' l b r : List ℕ) {a : Next} (k : ℕ) (m : Mark) → length h ≡ held-words → fresh limits text (length l) ≡ broken k m
     → Starts h h' r a (broken k m) → Calls limits text b h' l b r a [] (fresh limits text (length l))
 fresh-broken limits text h h' l b r {a} k m all e w =
-    broken-answer (fresh limits text (length l)) (ap (λ (x : Stream). call limits (length b) x) e ∙ broken-call limits (length b) k m)
-    (rw (w .1) (refusal-held h (record { number = k; mark = m }) all refl)) (w .0) (w .2)
+    broken-answer (fresh limits text (length l)) (ap (λ (x : Stream). call limits (length b) x) e ∙ refused-again limits (length b) k m)
+    (rw (w .1) (refused-breaks h (record { number = k; mark = m }) all l b)) (w .0) (w .2)
 
 pub starts-calls : (limits : Limits) (text h h' l b r : List ℕ) (a : Next) → Modest limits → length h ≡ held-words
     → Starts h h' r a (fresh limits text (length l)) → Calls limits text b h' l b r a [] (fresh limits text (length l))

@@ -1,29 +1,31 @@
--- Calls one after the other, from a state whose phase is 0 (a state of zeros): the records given are those of the definition's tokens, their texts
+-- Calls one after the other, from a fresh state (a state of zeros): the records given are those of the definition's tokens, their texts
 -- stand in front of the bytes, and the next answer is the definition's. So what yaml_stream proves of calls holds of what the code gives: behind
 -- "ended" the records are those of 01's whole list, a refusal is the broken rule's or has its reason, and either comes for ever.
-use Prim.Native.Nat.{_+_, ℕ}
+use Prim.Native.Nat.{_+_, _≤_, ℕ}
 use mathlib.Core.List.{List, [], _++_, _∷_, append-assoc, append-nil}
 use mathlib.Core.Logic.{_⊎_, inl, inr}
 use mathlib.Core.Path.{_∙_, _≡_, ap, refl, subst, sym}
 use native.Mathlib.Omega.{arith}
-use lib.ListN.{length, length-append, replicate, take}
+use lib.ListN.{getD, length, length-append, replicate, take}
 use lib.Seq.{take-at, take-take}
 use Rattle.yaml_text.specs.declared.Mark.{Mark}
 use Rattle.yaml_text.specs.declared.Refusal.{Refusal}
-use Rattle.yaml_lexeme.specs.Record.{records}
+use Rattle.yaml_lexeme.specs.Record.{laid-token, records}
+use Rattle.yaml_lexeme.specs.RecordLaws.{record-some}
 use Rattle.yaml_lexeme.specs.Token.{Token, texts, token-bytes}
 use Rattle.yaml_scan.specs.declared.Limits.{Limits}
 use Rattle.yaml_scan.specs.State.{Event}
 use Rattle.yaml_scan.specs.Scan.{outcome, scanned, stopped}
 use Rattle.yaml_scan.specs.Slots.{Slot, tokens-of}
 use Rattle.yaml_stream.specs.Answers.{Comes, comes-owes, ended-again, ended-stays, here, refused-again, refused-stays, then-call}
+use Rattle.yaml_stream.specs.Numbers.{at-least-one}
 use Rattle.yaml_stream.specs.Given.{Answered, Own, call-answers}
 use Rattle.yaml_stream.specs.Tale.{Close, at-rule, built, outcome-of, outcome-told, told as tale-told}
 use Rattle.yaml_stream.specs.Sizes.{texts-append}
 use Rattle.yaml_stream.specs.Stream.{Called, Stream, broken, call, called, closing, ended, fresh, refusal, spent, token}
 use Rattle.yaml_stream.specs.Stream as stream
 use Rattle.sink.specs.SlotWords.{laid-record, slot-texts, used-by}
-use Rattle.driver.specs.Held.{held-words, phase-at, word}
+use Rattle.driver.specs.Held.{held-words, phase-at, until-at, word}
 use Rattle.stream.specs.declared.Next.{Next}
 use Rattle.stream.specs.declared.Next.the-variants as next
 use Rattle.stream.specs.Holds.{Holds, Promises, Says, Waits, breaks, closes, fresh-state, scans, text-given}
@@ -47,15 +49,15 @@ pub record Gave (limits : Limits) (text l b rs h' l' b' : List ℕ) : Type 0 whe
 
 -- the texts of what was given stand in front
 
-front-waits : {h l b gone : List ℕ} {xs : List Slot} → Waits h l b gone xs → take (length gone) b ≡ gone
-front-waits {b = b} {gone = gone} {xs = xs} w =
-    sym (take-take (length gone) (length gone + used-by xs) b (omega arith)) ∙ ap (λ (z : List ℕ). take (length gone) z) (w .texts) ∙ take-at gone (slot-texts xs) (length gone) refl
+front-waits : {h l b gone : List ℕ} {gs xs : List Slot} → Waits h l b gone gs xs → take (length gone) b ≡ gone
+front-waits {b = b} {gone = gone} {gs = gs} {xs = xs} w =
+    sym (take-take (length gone) (length gone + used-by (gs ++ xs)) b (omega arith)) ∙ ap (λ (z : List ℕ). take (length gone) z) (w .texts) ∙ take-at gone (slot-texts (gs ++ xs)) (length gone) refl
 
 pub texts-in-front : (limits : Limits) (text h l b : List ℕ) {gone : List ℕ} {x : Stream} → Holds limits text h l b gone x → take (length gone) b ≡ gone
-texts-in-front limits text h l b (fresh-state e) = refl
-texts-in-front limits text h l b (scans m c) = front-waits (c .waits)
-texts-in-front limits text h l b (closes m c) = front-waits (c .waits)
-texts-in-front limits text h l b (breaks w) = w .texts
+texts-in-front limits text h l b (fresh-state e f) = refl
+texts-in-front limits text h l b (scans m a c) = front-waits (c .waits)
+texts-in-front limits text h l b (closes a c) = front-waits (c .waits)
+texts-in-front limits text h l b (breaks a e w) = front-waits (w .waits)
 
 -- one more
 
@@ -110,11 +112,12 @@ gave-more {limits} {text} {l} {b} {rs} {h₁} {l₁} {b₁} {h₂} {l₂} {b₂}
 
 -- from a state of zeros
 
-pub run-gave : {limits : Limits} {text h l b rs h' l' b' : List ℕ} → word h phase-at ≡ 0 → Run limits text h l b rs h' l' b' → Gave limits text l b rs h' l' b'
+pub run-gave : {limits : Limits} {text h l b rs h' l' b' : List ℕ} → word h phase-at ≡ 0 → word h until-at ≡ 0 → Run limits text h l b rs h' l' b'
+    → Gave limits text l b rs h' l' b'
 unfolding texts records
-run-gave {limits} {text} {h} {l} {b} e none =
-    record { tokens = []; behind = fresh limits text (length l); comes = here; words = refl; bytes = refl; holds = fresh-state e; same-words = refl; same-bytes = refl }
-run-gave e (more r i j p) = gave-more (run-gave e r) i j p
+run-gave {limits} {text} {h} {l} {b} e f none =
+    record { tokens = []; behind = fresh limits text (length l); comes = here; words = refl; bytes = refl; holds = fresh-state e f; same-words = refl; same-bytes = refl }
+run-gave e f (more r i j p) = gave-more (run-gave e f r) i j p
 
 -- the call behind them answers what the definition's does
 pub run-answers : {limits : Limits} {text l b rs h₁ l₁ b₁ h₂ l₂ b₂ r : List ℕ} {a : Next} (g : Gave limits text l b rs h₁ l₁ b₁) → Promises limits text h₁ l₁ b₁ h₂ l₂ b₂ r a
@@ -172,6 +175,19 @@ run-refused {limits} {text} {l} {b} {r = r} {f = f} g p = by-close (behind-run g
     by-close (inl e) = inl (outcome-told limits text ∙ ap (λ (c : Close). outcome-of (tale-told limits text .events) c) e)
     by-close (inr o) = inr o
 
+-- what a caller tells the answers apart by: a record begins with its kind's number, which is not 0, and no refusal's number is 0
+pub kind-not-zero : {limits : Limits} {text l b rs h₁ l₁ b₁ h₂ l₂ b₂ r : List ℕ} (g : Gave limits text l b rs h₁ l₁ b₁) → Promises limits text h₁ l₁ b₁ h₂ l₂ b₂ r next.Token → 1 ≤ getD r 0 0
+kind-not-zero {limits} {b = b} {r = r} g p =
+    let used = length (texts (g .tokens)) in
+    let v = told used (call limits (length b) (g .behind) .answer) r (run-answers g p) in
+    subst (λ (z : List ℕ). 1 ≤ getD z 0 0) (sym (v .words)) (record-some (laid-token used (v .given)))
+
+pub number-not-zero : {limits : Limits} {text l b rs h₁ l₁ b₁ h₂ l₂ b₂ r : List ℕ} {f : Refusal} (g : Gave limits text l b rs h₁ l₁ b₁) → Promises limits text h₁ l₁ b₁ h₂ l₂ b₂ r (next.Refused f)
+    → 1 ≤ f .number
+number-not-zero {limits} {text} {l} {b} {r = r} {f = f} g p =
+    at-least-one limits text (length l) (length b) (g .comes) (f .number) (f .mark)
+    (says-refused (length (texts (g .tokens))) (call limits (length b) (g .behind) .answer) r f (run-answers g p))
+
 -- each later call
 
 -- no token was given: the texts stay
@@ -210,5 +226,5 @@ refused-for-ever {limits} {gone = gone} {b = b} {k = k} {m = m} w p =
 
 -- a state of zeros
 
-pub zeros-fresh : word (replicate held-words 0) phase-at ≡ 0
-zeros-fresh = refl
+pub zeros-fresh : (word (replicate held-words 0) phase-at ≡ 0) × (word (replicate held-words 0) until-at ≡ 0)
+zeros-fresh = (refl, refl)

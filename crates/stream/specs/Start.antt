@@ -14,7 +14,7 @@ use Rattle.states.specs.State.{s-begin}
 use Rattle.driver.specs.Held.{base-at, phase-at, put-counts, put-state}
 use Rattle.stream.specs.declared.Next.{Next}
 use Rattle.stream.specs.declared.Next.the-variants as next
-use Rattle.stream.specs.Words.{no-token, put-refusal}
+use Rattle.stream.specs.Words.{no-token, refused-held}
 
 -- StreamStart is counted
 abbrev pub one-counted : Counts
@@ -26,6 +26,6 @@ begun-held h = set (set (put-counts (put-state (cleared h 0) s-begin) one-counte
 
 -- x is a fresh stream
 abbrev pub Starts : List ℕ → List ℕ → List ℕ → Next → Stream → Type 0
-Starts h h' r a (broken k m) = (a ≡ next.Refused (record { number = k; mark = m })) × (h' ≡ put-refusal h (record { number = k; mark = m })) × (r ≡ no-token)
+Starts h h' r a (broken k m) = (a ≡ next.Refused (record { number = k; mark = m })) × (h' ≡ refused-held h (record { number = k; mark = m })) × (r ≡ no-token)
 Starts h h' r a (scanning s n xs used) = (a ≡ next.Token) × (h' ≡ begun-held h) × (r ≡ record-of (empty-of kind.StreamStart origin))
 Starts h h' r a (closing xs) = ⊥

@@ -1,6 +1,7 @@
 -- What the parts of a call do to the words that they are lent.
 use Prim.Native.Nat.{_*_, _+_, _-_, ℕ}
-use mathlib.Core.List.{List, [], _∷_}
+use mathlib.Core.Bool.{Bool, false}
+use mathlib.Core.List.{List}
 use mathlib.Core.Path.{_≡_}
 use lib.Dec.{eqb, ltb}
 use lib.ListN.{drop, replicate, set, take}
@@ -14,7 +15,9 @@ use Rattle.stacks.specs.Most.{at-most}
 use Rattle.records.specs.Note.{empty-at, note-in, noted-word}
 use Rattle.sink.specs.Settle.{number, opener}
 use Rattle.events.specs.declared.Counts.{Counts}
-use Rattle.driver.specs.Held.{base-at, counts-at, mark-at, number-at, phase-at, slot-at, until-at, word}
+use Rattle.driver.specs.Held.{base-at, counts-at, mark-at, mark-words, number-at, phase-at, slot-at, until-at, word}
+use Rattle.stream.specs.declared.Next.{Next}
+use Rattle.stream.specs.declared.Next.the-variants as next
 
 -- the number of the kind that goes in first before a record with the note n
 unfoldable pub first-number : ℕ → ℕ
@@ -64,11 +67,27 @@ front-words h l = pick (ltb (front-base h) (word h counts-at)) (sets l 0 (record
 
 -- a refusal is held
 abbrev pub put-refusal : List ℕ → Refusal → List ℕ
-put-refusal h f = set (sets (set h phase-at 3) mark-at (f .mark .index ∷ f .mark .line ∷ f .mark .col ∷ [])) number-at (f .number)
+put-refusal h f = set (sets (set h phase-at 3) mark-at (mark-words (f .mark))) number-at (f .number)
+
+-- where nothing can be given
+abbrev pub refused-held : List ℕ → Refusal → List ℕ
+refused-held h f = set (set (put-refusal h f) slot-at 0) until-at 0
+
+-- the refusal that is held
+abbrev pub refusal-held : List ℕ → Refusal
+refusal-held h = record { number = word h number-at; mark = record { index = word h mark-at; line = word h (mark-at + 1); col = word h (mark-at + 2) } }
 
 -- StreamEnd was scanned
 abbrev pub close-held : List ℕ → Counts → List ℕ
 close-held h m = set (set h phase-at 2) until-at (m .count - at-most (m .count) (word h base-at))
+
+-- whether a token can be given, where so many words are lent
+unfoldable pub has-some : List ℕ → ℕ → Bool
+has-some h n = pick (ltb n (least-records * record-words)) false (ltb (word h slot-at) (word h until-at))
+
+-- what is said where none can
+unfoldable pub last-held : List ℕ → Next
+last-held h = pick (eqb (word h phase-at) 2) next.Ended (next.Refused (refusal-held h))
 
 abbrev pub no-token : List ℕ
 no-token = replicate record-words 0

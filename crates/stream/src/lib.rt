@@ -79,13 +79,7 @@ fn last_answer(held: &[u32], token: &mut [u32]) -> Next
 }
 
 // Steps, as many as are made at once; what they come to is held.
-fn scan_on(
-    limits: Limits,
-    held: &mut [u32],
-    text: &[u8],
-    words: &mut [u32],
-    bytes: &mut [u8],
-)
+fn scan_on(limits: Limits, held: &mut [u32], text: &[u8], words: &mut [u32], bytes: &mut [u8])
     requires { ⌜ Modest limits × (length (now text) ≤ limits .bytes) × (length (now held) ≡ held-words) × (least-records * record-words ≤ length (now words)) ⌝ }
     ensures { λ _. ⌜ ScansOn limits (now (text .entry)) (now (held .entry)) (now (words .entry)) (now (bytes .entry)) (now (held .exit)) (now (words .exit)) (now (bytes .exit)) ⌝ }
 {

@@ -12,9 +12,9 @@ use Rattle.yaml_text.specs.Test.{by-test}
 use Rattle.yaml_lexeme.specs.Token.{token-bytes}
 use Rattle.yaml_lexeme.specs.Record.{record-words}
 use Rattle.yaml_scan.specs.State.{Event}
-use Rattle.yaml_scan.specs.Candidates.{Given}
+use Rattle.yaml_scan.specs.Candidates.{GivenToken}
 use Rattle.yaml_scan.specs.Slots.{Slot}
-use Rattle.yaml_scan.specs.SlotLaws.{Holds}
+use Rattle.yaml_scan.specs.SlotLaws.{SlotsHold}
 use Rattle.yaml_stream.specs.Stream.{brings, counted-from, least-records, waits}
 use Rattle.rooms.specs.Room.{sets-join, take-sets}
 use Rattle.events.specs.declared.Counts.{Counts}
@@ -62,7 +62,7 @@ stored-front m k b v h f = by-test (ltb k m) (λ e. more (ltb-true k m e)) (λ e
         ∙ sym (ap (λ (n : ℕ). take n (p ++ v)) d ∙ take-append-add p v a)
 
 -- n, m: the counts before the steps and behind them; base: the number of the token in slot 0
-module _ {base : ℕ} {gs : List Given} {xs : List Slot} {es : List Event} {n m : Counts} {l b l' b' : List ℕ} (gone : List ℕ) (h : Holds gs xs) (d : Said base gs xs es)
+module _ {base : ℕ} {gs : List GivenToken} {xs : List Slot} {es : List Event} {n m : Counts} {l b l' b' : List ℕ} (gone : List ℕ) (h : SlotsHold gs xs) (d : Said base gs xs es)
     (counted : base + length xs ≡ n .count) (so-far : n .used ≡ length gone + used-by xs) (st : Stored base n m l b l' b' es) (r : least-records * record-words ≤ length l)
     (before : Laid l b gone xs) where
   abbrev ys : List Slot

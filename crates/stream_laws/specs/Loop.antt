@@ -19,7 +19,7 @@ use Rattle.yaml_scan.specs.State.{Event, News, State, ends-with, goes-on, mark-
 use Rattle.yaml_scan.specs.Scan.{step}
 use Rattle.yaml_scan.specs.Slots.{Slot, flat}
 use Rattle.yaml_scan.specs.SlotLaws.{flat-append}
-use Rattle.yaml_scan.specs.Candidates.{Given, given, placed-append}
+use Rattle.yaml_scan.specs.Candidates.{GivenToken, given, placed-append}
 use Rattle.yaml_stream.specs.Stream.{Stream, behind, brings, broken, call, counted-from, most-waiting, possible, scanning, stepped, too-many-wait, waits}
 use Rattle.yaml_stream.specs.Stream as stream
 use Rattle.yaml_stream.specs.Sizes.{brings-append}
@@ -29,8 +29,8 @@ use Rattle.yaml_stream.specs.Levels.{on-at}
 use Rattle.yaml_stream.specs.Notes.{flat-befores}
 use Rattle.yaml_stream.specs.Noted.{Noted}
 use Rattle.yaml_stream.specs.Seeks.{call-on}
-use Rattle.yaml_stream.specs.Between.{Between, Pauses, between-drop, step-pauses, still-first}
-use Rattle.yaml_stream.specs.Ahead.{Ahead, ahead-from, ahead-reaches, ahead-then, free-ahead, there}
+use Rattle.yaml_stream.specs.Between.{BetweenCalls, Pauses, between-drop, step-pauses, still-first}
+use Rattle.yaml_stream.specs.Ahead.{CallsGive, ahead-from, ahead-reaches, ahead-then, free-ahead, there}
 use Rattle.events.specs.declared.Counts.{Counts}
 use Rattle.events.specs.Event.{event-texts}
 use Rattle.sink.specs.EventsStored.{notes-append}
@@ -45,7 +45,7 @@ and-false : (p : Bool) → (p && false) ≡ false
 and-false true = refl
 and-false false = refl
 
-said-then : (base : ℕ) (gs hs : List Given) (xs : List Slot) (es fs : List Event) → given gs (map (counted-from base) es) ≡ hs → Said base gs xs es → Said base hs (waits base xs es) fs
+said-then : (base : ℕ) (gs hs : List GivenToken) (xs : List Slot) (es fs : List Event) → given gs (map (counted-from base) es) ≡ hs → Said base gs xs es → Said base hs (waits base xs es) fs
     → Said base gs xs (es ++ fs)
 said-then base gs hs xs es fs e h k =
     let f = map-append (counted-from base) es fs in
@@ -59,11 +59,11 @@ module _ (q : Setting) (base : ℕ) (x : Stream) where
   -- what a loop of at most k steps comes to
   abbrev Law : ℕ → Type 0
   Law k =
-      (all : List Given) (w : Pending) (s : State) (free ys : List Slot) (used : ℕ) (m : Counts) → left (s .place) < k → Middle q base x all w s free ys used m
+      (all : List GivenToken) (w : Pending) (s : State) (free ys : List Slot) (used : ℕ) (m : Counts) → left (s .place) < k → Middle q base x all w s free ys used m
       → Finds q base (drop base all) (free ++ ys) used x (driven (q .limits) (test q base) k w s m)
 
   -- one step, then the rest of the loop
-  module _ (all : List Given) (w : Pending) (s : State) (free ys : List Slot) (used : ℕ) (m : Counts) (h : Middle q base x all w s free ys used m) (es : List Event) (t : State)
+  module _ (all : List GivenToken) (w : Pending) (s : State) (free ys : List Slot) (used : ℕ) (m : Counts) (h : Middle q base x all w s free ys used m) (es : List Event) (t : State)
       (o : Onward base all w s free ys m es t) where
     abbrev n : ℕ
     n = w .number
@@ -209,7 +209,7 @@ module _ (q : Setting) (base : ℕ) (x : Stream) where
 
     -- where the first token that waited is no possible key any more, more can be given
     module _ (r : ComesTo q (scanning t n zs then-used)) (c : Same (scanning t n zs then-used)) (fits : then-used ≤ q .room) (first-not : possible n (t .keys) ≡ false)
-        (z : Between (length (s .levels)) t n zs) where
+        (z : BetweenCalls (length (s .levels)) t n zs) where
       abbrev number : ℕ
       number = next .number
 
@@ -234,12 +234,12 @@ module _ (q : Setting) (base : ℕ) (x : Stream) where
       then-numbered : base + length front ≡ number
       then-numbered = omega (arith, length-append free (take more zs), some-more, h .numbered, is-next .later)
 
-      more-given : Ahead (q .limits) (q .room) (scanning t n zs then-used) (flat (take more zs)) (scanning t number last then-used)
+      more-given : CallsGive (q .limits) (q .room) (scanning t n zs then-used) (flat (take more zs)) (scanning t number last then-used)
       more-given =
           let e : n + more ≡ number = omega (arith, is-next .later) in
           rw e at (free-ahead (q .limits) (q .room) t n more zs then-used (omega (arith, is-next .within)) (λ i b. is-next .free i (omega arith)))
 
-      all-given : Ahead (q .limits) (q .room) x (flat front) (scanning t number last then-used)
+      all-given : CallsGive (q .limits) (q .room) x (flat front) (scanning t number last then-used)
       all-given =
           let b : 1 ≤ length (flat (take more zs)) = omega (arith, flat-befores (take more zs), some-more, is-next .later) in
           rw (flat-append free (take more zs)) (ahead-then (q .limits) (q .room) (h .given-free) (ahead-from (q .limits) (q .room) c b more-given))
@@ -288,7 +288,7 @@ module _ (q : Setting) (base : ℕ) (x : Stream) where
         let g : behind (q .room) t n zs then-used ≡ scanning t n zs then-used = rw (e, a, behind) in
         gives-more (rw g at r) (rw g at c) (ltb-false (q .room) then-used e) p (by-pauses z) k law b (test-first e ∙ rw p)
       where
-        by-pauses : Pauses s n ys (goes-on es t) → Between (length (s .levels)) t n zs
+        by-pauses : Pauses s n ys (goes-on es t) → BetweenCalls (length (s .levels)) t n zs
         by-pauses (inl d) = true-false (sym d ∙ p)
         by-pauses (inr d) = d
 
@@ -319,7 +319,7 @@ module _ (q : Setting) (base : ℕ) (x : Stream) where
   loop-finds (suc k) = one-step k (loop-finds k)
 
 -- where a call has to scan: the whole budget
-pub call-finds : (q : Setting) {l : ℕ} {s : State} {n : ℕ} {xs : List Slot} (used : ℕ) (c : Counts) (w : Pending) → ComesTo q (scanning s n xs used) → (v : Noted s n xs) → Between l s n xs
+pub call-finds : (q : Setting) {l : ℕ} {s : State} {n : ℕ} {xs : List Slot} (used : ℕ) (c : Counts) (w : Pending) → ComesTo q (scanning s n xs used) → (v : Noted s n xs) → BetweenCalls l s n xs
     → stream.ready (scanning s n xs used) ≡ false → used ≤ q .room → c .count ≡ s .count → c .used ≡ used → w ≡ record { number = n; level = level-from l s n; «put_in» = c .«put_in» }
     → Finds q n (drop n (v .all)) xs used (scanning s n xs used) (driven (q .limits) (test q n) (suc (left (s .place))) w s c)
 unfolding flat

@@ -18,13 +18,13 @@ use Rattle.yaml_text.specs.All.{all-got}
 use Rattle.yaml_scan.specs.State.{Event, State, ends-with, goes-on, put, put-before, puts}
 use Rattle.yaml_scan.specs.Scan.{step}
 use Rattle.yaml_scan.specs.Slots.{Slot, flat, slots}
-use Rattle.yaml_scan.specs.SlotLaws.{Holds, flat-append, slots-total, total}
-use Rattle.yaml_scan.specs.Candidates.{Given, Placed, Sound, given}
-use Rattle.yaml_scan.specs.Runs.{Goes, step-news}
+use Rattle.yaml_scan.specs.SlotLaws.{SlotsHold, flat-append, slots-total, total}
+use Rattle.yaml_scan.specs.Candidates.{GivenToken, Placed, Sound, given}
+use Rattle.yaml_scan.specs.Runs.{GoesTo, step-news}
 use Rattle.yaml_stream.specs.Stream.{Stream, broken, call, closing, counted-from, scanning, waits}
 use Rattle.yaml_stream.specs.Stream as stream
 use Rattle.yaml_stream.specs.Silent.{Silent, step-silent}
-use Rattle.yaml_stream.specs.Kept.{Kept, NotesFrom, notes-less, step-keeps}
+use Rattle.yaml_stream.specs.Kept.{StepKeeps, NotesFrom, notes-less, step-keeps}
 use Rattle.yaml_stream.specs.Waits.{waits-behind, waits-length}
 use Rattle.yaml_stream.specs.Answers.{refused-again}
 use Rattle.yaml_stream.specs.Alone.{LastOf, step-last}
@@ -34,7 +34,7 @@ use Rattle.yaml_stream.specs.Notes.{AllNoted, counted-given, counted-notes, cou
 use Rattle.yaml_stream.specs.Notes as known
 use Rattle.yaml_stream.specs.Noted.{sound-count}
 use Rattle.yaml_stream.specs.Between.{Lone, to-scan}
-use Rattle.yaml_stream.specs.Ahead.{Ahead, ahead-from, ahead-then, closing-ahead}
+use Rattle.yaml_stream.specs.Ahead.{CallsGive, ahead-from, ahead-then, closing-ahead}
 use Rattle.yaml_stream.specs.Tight.{waiting-at-end, waiting-behind}
 use Rattle.events.specs.declared.Counts.{Counts}
 use Rattle.sink.specs.SlotWords.{slot-texts}
@@ -45,11 +45,11 @@ use Rattle.stream_laws.specs.Sought.{ComesTo, EndsWith, Idle, Said, Sett
 
 -- before each step of a call. x: the stream from which it was made; base: the number of the token in slot 0; all: all tokens so far, those given too;
 -- w: what is pending; the slots free can be given, ys wait; m: the counts
-pub record Middle (q : Setting) (base : ℕ) (x : Stream) (all : List Given) (w : Pending) (s : State) (free ys : List Slot) (used : ℕ) (m : Counts) : Type 0 where
+pub record Middle (q : Setting) (base : ℕ) (x : Stream) (all : List GivenToken) (w : Pending) (s : State) (free ys : List Slot) (used : ℕ) (m : Counts) : Type 0 where
   pub comes : ComesTo q (scanning s (w .number) ys used)
   pub not-ready : stream.ready (scanning s (w .number) ys used) ≡ false
   pub sound : Sound all s
-  pub holds-last : Holds (drop base all) (free ++ ys)
+  pub holds-last : SlotsHold (drop base all) (free ++ ys)
   pub all-noted : AllNoted (free ++ ys)
   pub on-level : OnLevel (w .number) (w .level) (s .keys)
   pub level-next : s .count ≤ w .number → w .level ≡ length (s .levels)
@@ -62,17 +62,17 @@ pub record Middle (q : Setting) (base : ℕ) (x : Stream) (all : List Given) (w 
   pub few-free : length free < slots-ahead
   -- the stream behind the calls that give them, from which it is scanned
   pub from : Stream
-  pub given-free : Ahead (q .limits) (q .room) x (flat free) from
+  pub given-free : CallsGive (q .limits) (q .room) x (flat free) from
   pub same-call : call (q .limits) (q .room) from ≡ call (q .limits) (q .room) (scanning s (w .number) ys used)
 
 -- behind a step
-pub record Onward (base : ℕ) (all : List Given) (w : Pending) (s : State) (free ys : List Slot) (m : Counts) (es : List Event) (t : State) : Type 0 where
+pub record Onward (base : ℕ) (all : List GivenToken) (w : Pending) (s : State) (free ys : List Slot) (m : Counts) (es : List Event) (t : State) : Type 0 where
   pub takes : left (t .place) < left (s .place)
   pub said : Said base (drop base all) (free ++ ys) es
   pub sound : Sound (given all es) t
   pub rest : given (drop base all) (map (counted-from base) es) ≡ drop base (given all es)
   pub parts : waits base (free ++ ys) es ≡ free ++ waits (w .number) ys es
-  pub holds-last : Holds (drop base (given all es)) (waits base (free ++ ys) es)
+  pub holds-last : SlotsHold (drop base (given all es)) (waits base (free ++ ys) es)
   pub all-noted : AllNoted (waits base (free ++ ys) es)
   pub on-level : OnLevel (w .number) (w .level) (t .keys)
   pub count : m .count + puts es ≡ t .count
@@ -84,9 +84,9 @@ held-of : (q : Setting) {s : State} {n : ℕ} {xs : List Slot} {used : ℕ} → 
 held-of q r = reaches-keeps (q .limits) (q .room) (fresh-keeps (q .limits) (q .text) (q .words)) r
 
 -- between two calls the loop begins, and again where more can be given. c: the counts then
-pub begins : {q : Setting} {base : ℕ} {x : Stream} {all : List Given} {w : Pending} {s : State} {free ys : List Slot} {used : ℕ} (c : Counts) → Idle q w s ys used → Sound all s
-    → Holds (drop base all) (free ++ ys) → AllNoted (free ++ ys) → c .count ≡ s .count → c .used ≡ used → w .«put_in» ≡ c .«put_in» → base + length free ≡ w .number
-    → length free < slots-ahead → Ahead (q .limits) (q .room) x (flat free) (scanning s (w .number) ys used) → Middle q base x all w s free ys used c
+pub begins : {q : Setting} {base : ℕ} {x : Stream} {all : List GivenToken} {w : Pending} {s : State} {free ys : List Slot} {used : ℕ} (c : Counts) → Idle q w s ys used → Sound all s
+    → SlotsHold (drop base all) (free ++ ys) → AllNoted (free ++ ys) → c .count ≡ s .count → c .used ≡ used → w .«put_in» ≡ c .«put_in» → base + length free ≡ w .number
+    → length free < slots-ahead → CallsGive (q .limits) (q .room) x (flat free) (scanning s (w .number) ys used) → Middle q base x all w s free ys used c
 unfolding flat
 begins {q} {base} {x} {all} {w} {s} {free} {ys} {used} c d h o a i j e f g k =
     record {
@@ -133,7 +133,7 @@ total-noted [] = omega arith
 total-noted (put t ∷ es) = omega (arith, total-noted es)
 total-noted (put-before k ts ∷ es) = omega (arith, total-noted es)
 
-module _ {q : Setting} {base : ℕ} {x : Stream} {all : List Given} {w : Pending} {s : State} {free ys : List Slot} {used : ℕ} {m : Counts} (h : Middle q base x all w s free ys used m) where
+module _ {q : Setting} {base : ℕ} {x : Stream} {all : List GivenToken} {w : Pending} {s : State} {free ys : List Slot} {used : ℕ} {m : Counts} (h : Middle q base x all w s free ys used m) where
   abbrev n : ℕ
   n = w .number
 
@@ -182,9 +182,9 @@ module _ {q : Setting} {base : ℕ} {x : Stream} {all : List Given} {w : Pending
   unfolding waits
   onward es t e =
       let v = held in
-      let g : Goes all s es t = all-got (step-news all (q .limits) s) e in
+      let g : GoesTo all s es t = all-got (step-news all (q .limits) s) e in
       let j = g .sound (h .sound) in
-      let k : Kept n s (goes-on es t) = all-got (step-keeps n (q .limits) s (omega (arith, v .counted)) (v .from)) e in
+      let k : StepKeeps n s (goes-on es t) = all-got (step-keeps n (q .limits) s (omega (arith, v .counted)) (v .from)) e in
       let i : known.Notes es = all-got (step-notes (q .limits) s) e in
       let l : LastOf n s (goes-on es t) = all-got (step-last n (q .limits) s) e in
       let few = waiting-behind (q .limits) (q .text) (q .words) (q .room) (q .some-entries) 256 (omega (arith, q .few-entries)) (omega arith) (h .comes) (h .not-ready) es t e in

@@ -15,7 +15,7 @@ use Rattle.yaml_stream.specs.Stream.{possible, scanning}
 use Rattle.yaml_stream.specs.Stream as stream
 use Rattle.yaml_stream.specs.Lowest.{names}
 use Rattle.yaml_stream.specs.Levels.{level-key, on-at}
-use Rattle.yaml_stream.specs.Between.{Between, still-first}
+use Rattle.yaml_stream.specs.Between.{BetweenCalls, still-first}
 use Rattle.events.specs.declared.Counts.{Counts}
 use Rattle.stream_laws.specs.declared.Pending.{Pending}
 use Rattle.stream_laws.specs.Driven.{then-pending}
@@ -34,7 +34,7 @@ unfolding stream.ready
 ready-none s n xs used e = rw e
 
 -- c: the counts then
-pub next-pending : {l : ℕ} {t : State} {n : ℕ} {ys : List Slot} (c : Counts) → n + length ys ≡ t .count → Between l t n ys → n < t .count → possible n (t .keys) ≡ false → c .count ≡ t .count
+pub next-pending : {l : ℕ} {t : State} {n : ℕ} {ys : List Slot} (c : Counts) → n + length ys ≡ t .count → BetweenCalls l t n ys → n < t .count → possible n (t .keys) ≡ false → c .count ≡ t .count
     → Next l t n ys (then-pending l (t .keys) (length (t .levels)) c)
 unfolding then-pending
 next-pending {l} {t} {n} {ys} c h b k p e =

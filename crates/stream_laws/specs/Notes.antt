@@ -7,15 +7,14 @@ use Rattle.yaml_text.specs.declared.Mark.{Mark}
 use Rattle.yaml_lexeme.specs.Token.{Token}
 use Rattle.yaml_lexeme.specs.Record.{laid, number-of, record-words}
 use Rattle.yaml_scan.specs.State.{Event, put, put-before}
-use Rattle.yaml_scan.specs.Candidates.{Given, Placed}
+use Rattle.yaml_scan.specs.Candidates.{GivenToken, Placed}
 use Rattle.yaml_scan.specs.Slots.{Slot}
-use Rattle.yaml_scan.specs.SlotLaws.{Holds}
+use Rattle.yaml_scan.specs.SlotLaws.{SlotsHold}
 use Rattle.yaml_stream.specs.Stream.{counted-from, waits}
 use Rattle.yaml_stream.specs.Notes.{Note, block, key, no-note, pair}
 use Rattle.yaml_stream.specs.Notes as stream
 use Rattle.sink.specs.Settle.{note-kinds, opener}
 use Rattle.sink.specs.SlotWords.{note-number, note-of, used-by, with-slots}
-use Rattle.sink.specs.SlotsSettled.{AllNoted, put-ins}
 use Rattle.sink.specs.EventsStored.{Notes, events-stored, kinds, store-events}
 
 note-kinds-of : {m : Mark} {ts : List Token} → Note m ts → kinds ts ≡ note-kinds (note-of ts)
@@ -25,26 +24,14 @@ note-kinds-of key = refl
 note-kinds-of pair = refl
 note-kinds-of block = refl
 
-note-is : {m : Mark} {ts : List Token} → Note m ts → ts ≡ put-ins (note-of ts) m
-unfolding note-kinds note-number opener laid number-of
-note-is no-note = refl
-note-is key = refl
-note-is pair = refl
-note-is block = refl
-
 pub notes-kinds : (es : List Event) → stream.Notes es → Notes es
 unfolding Notes stream.Notes
 notes-kinds [] h = tt
 notes-kinds (put t ∷ es) h = notes-kinds es h
 notes-kinds (put-before k ts ∷ es) h = (note-kinds-of (h .0 .1), notes-kinds es (h .1))
 
-pub all-noted : (xs : List Slot) → stream.AllNoted xs → AllNoted xs
-unfolding AllNoted
-all-noted [] h = tt
-all-noted (x ∷ xs) h = (note-is (h .0), all-noted xs (h .1))
-
 -- so many bytes of text having come before the slots
-pub waits-stored : (used n : ℕ) (es : List Event) (gs : List Given) (xs : List Slot) (l : List ℕ) → Holds gs xs → Placed gs (map (counted-from n) es)
+pub waits-stored : (used n : ℕ) (es : List Event) (gs : List GivenToken) (xs : List Slot) (l : List ℕ) → SlotsHold gs xs → Placed gs (map (counted-from n) es)
     → Notes (map (counted-from n) es) → length (waits n xs es) * record-words ≤ length l
     → store-events (with-slots used xs l) (length xs) (used + used-by xs) (map (counted-from n) es) ≡ with-slots used (waits n xs es) l
 unfolding waits

@@ -12,13 +12,13 @@ use Rattle.yaml_lexeme.specs.Token.{token-bytes}
 use Rattle.yaml_scan.specs.declared.Limits.{Limits}
 use Rattle.yaml_scan.specs.State.{Event, State, mark-of, put, put-before}
 use Rattle.yaml_scan.specs.Slots.{Slot, flat}
-use Rattle.yaml_scan.specs.Candidates.{Given, Placed}
+use Rattle.yaml_scan.specs.Candidates.{GivenToken, Placed}
 use Rattle.yaml_stream.specs.Stream.{Stream, brings, broken, call, called, closing, counted-from, fresh, refusal, scanning, waits}
 use Rattle.yaml_stream.specs.Stream as stream
-use Rattle.yaml_stream.specs.Waiting.{Reaches}
+use Rattle.yaml_stream.specs.Waiting.{StreamReaches}
 use Rattle.yaml_stream.specs.Notes.{AllNoted}
-use Rattle.yaml_stream.specs.Between.{Between}
-use Rattle.yaml_stream.specs.Ahead.{Ahead}
+use Rattle.yaml_stream.specs.Between.{BetweenCalls}
+use Rattle.yaml_stream.specs.Ahead.{CallsGive}
 use Rattle.events.specs.Event.{event-texts}
 use Rattle.sink.specs.EventsStored.{Notes, stored-texts}
 use Rattle.sink.specs.CountedFrom.{counted-texts}
@@ -53,7 +53,7 @@ pub record Setting : Type 0 where
   pub few-entries : limits .entries ≤ 255
 
 abbrev pub ComesTo : Setting → Stream → Type 0
-ComesTo q x = Reaches (q .limits) (q .room) (fresh (q .limits) (q .text) (q .words)) x
+ComesTo q x = StreamReaches (q .limits) (q .room) (fresh (q .limits) (q .text) (q .words)) x
 
 -- the test behind each step
 abbrev pub test : Setting → ℕ → Test
@@ -64,7 +64,7 @@ abbrev pub level-from : ℕ → State → ℕ → ℕ
 level-from l s n = pick (ltb n (s .count)) l (length (s .levels))
 
 -- what steps said: it can be stored in the slots xs of the tokens gs, and there is room for it
-pub record Said (base : ℕ) (gs : List Given) (xs : List Slot) (es : List Event) : Type 0 where
+pub record Said (base : ℕ) (gs : List GivenToken) (xs : List Slot) (es : List Event) : Type 0 where
   pub placed : Placed gs (map (counted-from base) es)
   pub notes : Notes (map (counted-from base) es)
   pub few : length (waits base xs es) ≤ 4_383
@@ -75,27 +75,27 @@ pub record Idle (q : Setting) (w : Pending) (t : State) (ys : List Slot) (used :
   pub comes : ComesTo q (scanning t (w .number) ys used)
   pub fits : used ≤ q .room
   pub level : ℕ
-  pub between : Between level t (w .number) ys
+  pub between : BetweenCalls level t (w .number) ys
   pub on-level : w .level ≡ level-from level t (w .number)
 
 -- what the loop comes to, from the stream x. What waits then is waits base xs es; of it the slots before the pending one can be given
-pub record EndsWith (q : Setting) (base : ℕ) (gs : List Given) (xs : List Slot) (used : ℕ) (x : Stream) (es : List Event) : Type 0 where
-  pub given-all : Ahead (q .limits) (q .room) x (flat (waits base xs es)) (closing [])
+pub record EndsWith (q : Setting) (base : ℕ) (gs : List GivenToken) (xs : List Slot) (used : ℕ) (x : Stream) (es : List Event) : Type 0 where
+  pub given-all : CallsGive (q .limits) (q .room) x (flat (waits base xs es)) (closing [])
   pub said : Said base gs xs es
   pub noted : AllNoted (waits base xs es)
   pub fits : used + brings es ≤ q .room
 
-pub record PausesAt (q : Setting) (base : ℕ) (gs : List Given) (xs : List Slot) (used : ℕ) (x : Stream) (es : List Event) (w : Pending) (t : State) : Type 0 where
-  pub given-free : Ahead (q .limits) (q .room) x (flat (take (w .number - base) (waits base xs es))) (scanning t (w .number) (drop (w .number - base) (waits base xs es)) (used + brings es))
+pub record PausesAt (q : Setting) (base : ℕ) (gs : List GivenToken) (xs : List Slot) (used : ℕ) (x : Stream) (es : List Event) (w : Pending) (t : State) : Type 0 where
+  pub given-free : CallsGive (q .limits) (q .room) x (flat (take (w .number - base) (waits base xs es))) (scanning t (w .number) (drop (w .number - base) (waits base xs es)) (used + brings es))
   pub said : Said base gs xs es
   pub noted : AllNoted (waits base xs es)
   pub some : base < w .number
   pub within : w .number ≤ base + length (waits base xs es)
   pub idle : Idle q w t (drop (w .number - base) (waits base xs es)) (used + brings es)
 
-pub record StopsAt (q : Setting) (base : ℕ) (gs : List Given) (xs : List Slot) (used : ℕ) (x : Stream) (es : List Event) (w : Pending) (k : ℕ) (p : Mark) : Type 0 where
+pub record StopsAt (q : Setting) (base : ℕ) (gs : List GivenToken) (xs : List Slot) (used : ℕ) (x : Stream) (es : List Event) (w : Pending) (k : ℕ) (p : Mark) : Type 0 where
   pub behind : Stream
-  pub given-free : Ahead (q .limits) (q .room) x (flat (take (w .number - base) (waits base xs es))) behind
+  pub given-free : CallsGive (q .limits) (q .room) x (flat (take (w .number - base) (waits base xs es))) behind
   pub refusal-next : call (q .limits) (q .room) behind ≡ called (refusal k p) (broken k p)
   pub said : Said base gs xs es
   pub noted : AllNoted (waits base xs es)
@@ -104,7 +104,7 @@ pub record StopsAt (q : Setting) (base : ℕ) (gs : List Given) (xs : List Slot)
   -- their texts are in the bytes lent
   pub fits : used-by (take (w .number - base) (waits base xs es)) + used ≤ q .room + used-by xs
 
-abbrev pub Finds : Setting → ℕ → List Given → List Slot → ℕ → Stream → Driven → Type 0
+abbrev pub Finds : Setting → ℕ → List GivenToken → List Slot → ℕ → Stream → Driven → Type 0
 Finds q base gs xs used x (ends es) = EndsWith q base gs xs used x es
 Finds q base gs xs used x (pauses es w t) = PausesAt q base gs xs used x es w t
 Finds q base gs xs used x (stops es w k p) = StopsAt q base gs xs used x es w k p

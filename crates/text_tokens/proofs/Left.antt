@@ -34,14 +34,14 @@ use Rattle.states.specs.Key.{removed-words}
 use Rattle.states.specs.Lexed.{Way, back, clipped, lexed-got, lexed-refused, part}
 use Rattle.states.specs.Rest.{is-rest, rest-at, rest-view}
 use Rattle.states.specs.State.{behind-of, state-of}
-use Rattle.documents.specs.Leave.{Leaves, goes-outside}
+use Rattle.documents.specs.Leave.{LeavesBlocks, goes-outside}
 use Rattle.text_tokens.specs.Lexeme.{LeftRead}
 use Rattle.text_tokens.proofs.Read.{from-here, same-for-all}
 
 -- the words and the answer, by what was read
 
 module _ {a e : List ℕ} (s : State) {r : Reading} where
-  pub left-got : {l : Lexeme} {v : Fetched} (u : Unrolled) → r ≡ Got l → Leaves a e s u → v ≡ goes-outside s u (behind-of (s .place) (l .next)) true false (l .token) → LeftRead a e s r v
+  pub left-got : {l : Lexeme} {v : Fetched} (u : Unrolled) → r ≡ Got l → LeavesBlocks a e s u → v ≡ goes-outside s u (behind-of (s .place) (l .next)) true false (l .token) → LeftRead a e s r v
   left-got u q h i = rw q (record { unrolled = u; leaves = h; same = i })
 
   pub left-refused : {f : Refusal} → r ≡ Refused f → e ≡ a → LeftRead a e s r (fetched.Refused f)

@@ -19,7 +19,7 @@ use Rattle.chars.specs.View.{Stands, view}
 use Rattle.reading.specs.declared.Lexeme.{Lexeme}
 use Rattle.reading.specs.declared.Reading.{Reading}
 use Rattle.reading.specs.declared.Reading.the-variants.{Got, Refused}
-use Rattle.reading.specs.Reading.{Ahead, Given, Indicated, first-at}
+use Rattle.reading.specs.Reading.{ReadsAhead, ReaderGiven, Indicated, first-at}
 use Rattle.stacks.specs.declared.indent.Indents.{Indents}
 use Rattle.stacks.specs.Stack.{entry-words, stack-words}
 use Rattle.stacks.specs.Indent.{Low}
@@ -31,7 +31,7 @@ use Rattle.states.specs.Fetch.{OneByte, Ready}
 use Rattle.states.specs.Key.{Saves}
 use Rattle.states.specs.Rest.{behind-fits, is-rest, rest-at, rest-given, rest-indicated}
 use Rattle.states.specs.State.{behind-of}
-use Rattle.text_tokens.specs.Lexeme.{Fits, SavesRead, fetched-of}
+use Rattle.text_tokens.specs.Lexeme.{PlaceFits, SavesRead, fetched-of}
 
 -- what a reader asks for
 
@@ -42,7 +42,7 @@ module _ {text : List ℕ} {p : Place} (h : Stands text p) where
 
   -- where the text does not end
   pub lit-plain : {used : ℕ} → used < 2 ^ 31 → is-z (peek (chars (drop (p .at) text)) 0) ≡ false
-      → Given (rest-at text p) (p .mark) used × (is-z (peek (chars (rest-at text p)) 0) ≡ false)
+      → ReaderGiven (rest-at text p) (p .mark) used × (is-z (peek (chars (rest-at text p)) 0) ≡ false)
   lit-plain u z = (rest-given text p (is-rest text p) h u, rw (is-rest text p) z)
 
 -- the first byte of the rest
@@ -55,17 +55,17 @@ low-indent y h = omega (arith, y .lent)
 
 -- what the function behind the reader asks for
 module _ {limits : Limits} {text a : List ℕ} {s : State} (y : Ready limits text a s) (n : length text < 2 ^ 63) where
-  pub reading-fits : (r : Reading) → Ahead (rest-at text (s .place)) r → Fits (s .place) r
+  pub reading-fits : (r : Reading) → ReadsAhead (rest-at text (s .place)) r → PlaceFits (s .place) r
   reading-fits (Got l) h = (behind-fits text (s .place) (is-rest text (s .place)) (y .stands) (h .stands) n, omega (arith, h .stands))
   reading-fits (Refused f) h = tt
 
-  pub saving : (r : Reading) → Ahead (rest-at text (s .place)) r
-      → Fits (s .place) r × (s .«flow_level» ≤ 255) × (s .indents .depth ≤ entry-words) × (stack-words ≤ length a) × (s .place .mark .col ≤ 1_048_576)
+  pub saving : (r : Reading) → ReadsAhead (rest-at text (s .place)) r
+      → PlaceFits (s .place) r × (s .«flow_level» ≤ 255) × (s .indents .depth ≤ entry-words) × (stack-words ≤ length a) × (s .place .mark .col ≤ 1_048_576)
   saving r h = let k = ready-saves y in (reading-fits r h, k .0, k .1, k .2, k .3)
 
 -- the answer, by what was read
 
-pub fits-got : (p : Place) {r : Reading} {l : Lexeme} → r ≡ Got l → Fits p r → Fits p (Got l)
+pub fits-got : (p : Place) {r : Reading} {l : Lexeme} → r ≡ Got l → PlaceFits p r → PlaceFits p (Got l)
 fits-got p e h = rw e at h
 
 module _ (t : Place → State) (n : ℕ) (p : Place) {r : Reading} where

@@ -21,12 +21,12 @@ use Rattle.states.specs.declared.State.{State}
 use Rattle.states.specs.Fetch.{FetchesText}
 use Rattle.states.specs.Key.{Saves, saved-words}
 use Rattle.states.specs.State.{behind-of, state-of}
-use Rattle.documents.specs.Leave.{Leaves, goes-outside}
+use Rattle.documents.specs.Leave.{LeavesBlocks, goes-outside}
 
 -- the place behind what was read from p on wraps nowhere
-abbrev pub Fits : Place → Reading → Type 0
-Fits p (reading.Got l) = (p .at + l .next .at < 2 ^ 63) × (l .next .mark .index < 2 ^ 31)
-Fits p (reading.Refused f) = Unit {0}
+abbrev pub PlaceFits : Place → Reading → Type 0
+PlaceFits p (reading.Got l) = (p .at + l .next .at < 2 ^ 63) × (l .next .mark .index < 2 ^ 31)
+PlaceFits p (reading.Refused f) = Unit {0}
 
 -- by what was read from p on: a token behind n ends of blocks, and the state behind it; or a refusal
 unfoldable pub fetched-of : (Place → State) → ℕ → Place → Reading → Fetched
@@ -42,7 +42,7 @@ SavesRead a e count s (reading.Refused f) = e ≡ a
 
 pub record Left (a e : List ℕ) (s : State) (l : Lexeme) (v : Fetched) : Type 0 where
   pub unrolled : Unrolled
-  pub leaves : Leaves a e s unrolled
+  pub leaves : LeavesBlocks a e s unrolled
   pub same : v ≡ goes-outside s unrolled (behind-of (s .place) (l .next)) true false (l .token)
 
 abbrev pub LeftRead : List ℕ → List ℕ → State → Reading → Fetched → Type 0

@@ -17,7 +17,7 @@ ghost use Rattle.states.specs.Fetch.{FetchesText, OneByte, Ready};
 ghost use Rattle.states.specs.Key.{removed-words};
 ghost use Rattle.states.specs.Lexed.{clipped};
 ghost use Rattle.states.specs.State.{s-adjacent-here, s-moved, state-of};
-ghost use Rattle.text_tokens.specs.Lexeme.{FetchesSaved, Fits, LeftRead, SavesRead, fetched-of};
+ghost use Rattle.text_tokens.specs.Lexeme.{FetchesSaved, PlaceFits, LeftRead, SavesRead, fetched-of};
 use documents::leave_blocks;
 use events::Counts;
 use events::closing;
@@ -51,7 +51,7 @@ fn fetched(
     allowed: bool,
     stacks: &mut [u32],
 ) -> Fetched
-    requires { ⌜ Fits (t .place) r × (s .«flow_level» ≤ 255) × (s .indents .depth ≤ entry-words) × (stack-words ≤ length (now stacks)) × (s .place .mark .col ≤ 1_048_576) ⌝ }
+    requires { ⌜ PlaceFits (t .place) r × (s .«flow_level» ≤ 255) × (s .indents .depth ≤ entry-words) × (stack-words ≤ length (now stacks)) × (s .place .mark .col ≤ 1_048_576) ⌝ }
     ensures { λ e. ⌜ SavesRead (now (stacks .entry)) (now (stacks .exit)) count s r × (e ≡ fetched-of (λ p. s-moved t p leads allowed) 0 (t .place) r) ⌝ }
 {
     match r {
@@ -65,7 +65,7 @@ fn fetched(
 
 // A plain scalar that was read.
 fn brief(r: Reading, s: State) -> Brief
-    requires { ⌜ Fits (s .place) r ⌝ }
+    requires { ⌜ PlaceFits (s .place) r ⌝ }
     ensures { λ e. ⌜ brief-fetched e ≡ fetched-of (λ p. s-moved s p false false) 0 (s .place) r ⌝ }
 {
     match r {
@@ -108,7 +108,7 @@ pub fn fetch_plain_scalar(
 
 // A quoted scalar that was read: ':' may stand directly behind it (K5).
 fn fetched_quoted(r: Reading, s: State, count: u32, stacks: &mut [u32]) -> Fetched
-    requires { ⌜ Fits (s .place) r × (s .«flow_level» ≤ 255) × (s .indents .depth ≤ entry-words) × (stack-words ≤ length (now stacks)) × (s .place .mark .col ≤ 1_048_576) ⌝ }
+    requires { ⌜ PlaceFits (s .place) r × (s .«flow_level» ≤ 255) × (s .indents .depth ≤ entry-words) × (stack-words ≤ length (now stacks)) × (s .place .mark .col ≤ 1_048_576) ⌝ }
     ensures { λ e. ⌜ SavesRead (now (stacks .entry)) (now (stacks .exit)) count s r × (e ≡ fetched-of (λ p. s-adjacent-here (s-moved s p false false)) 0 (s .place) r) ⌝ }
 {
     match r {
@@ -217,7 +217,7 @@ pub fn fetch_anchor(
 
 // A directive that was read: outside every block, behind their ends.
 fn fetched_left(r: Reading, s: State, stacks: &mut [u32]) -> Fetched
-    requires { ⌜ Fits (s .place) r × (s .«flow_level» ≤ 255) × Low entry-words (s .indents) × (stack-words ≤ length (now stacks)) ⌝ }
+    requires { ⌜ PlaceFits (s .place) r × (s .«flow_level» ≤ 255) × Low entry-words (s .indents) × (stack-words ≤ length (now stacks)) ⌝ }
     ensures { λ e. ⌜ LeftRead (now (stacks .entry)) (now (stacks .exit)) s r e ⌝ }
 {
     match r {

@@ -21,7 +21,7 @@ OfOutcome P (stopped n m) = Unit {0}
 OfOutcome P spent = Unit {0}
 
 -- the events es of a scan of the bytes: StreamStart, and what comes from the first character on
-pub record Scans (Good : State → List Event → Type 0) (bytes : List ℕ) (es : List Event) : Type 0 where
+pub record ScanOf (Good : State → List Event → Type 0) (bytes : List ℕ) (es : List Event) : Type 0 where
   pub text : List ℕ
   pub decodes : Decodes 0 bytes text
   pub further : List Event
@@ -58,11 +58,11 @@ module _ (limits : Limits) (Good Ready : State → List Event → Type 0)
       on-news (λ r. OfOutcome (Good s) (after-step r (λ u. run limits k u))) (step-leads s)
       (λ es u h. after-good (Good u) (Good s) es (run limits k u) h (run-good k u)) (λ es h. h) (λ _ _. tt)
 
-  scan-good : (bytes cs : List ℕ) → Decodes 0 bytes cs → OfOutcome (Scans Good bytes) (scan limits cs)
+  scan-good : (bytes cs : List ℕ) → Decodes 0 bytes cs → OfOutcome (ScanOf Good bytes) (scan limits cs)
   unfolding scan
   scan-good bytes cs d =
-      after-good (Good (begin cs)) (Scans Good bytes) (put (empty-token StreamStart origin) ∷ []) (run limits (suc (length cs)) (begin cs))
+      after-good (Good (begin cs)) (ScanOf Good bytes) (put (empty-token StreamStart origin) ∷ []) (run limits (suc (length cs)) (begin cs))
       (λ fs h. record { text = cs; decodes = d; further = fs; whole = refl; good = h }) (run-good (suc (length cs)) (begin cs))
 
-  pub outcome-good : (bytes : List ℕ) (es : List Event) → outcome limits bytes ≡ scanned es → Scans Good bytes es
-  outcome-good bytes es e = rw e at (outcome-by (OfOutcome (Scans Good bytes)) limits bytes (λ cs d. scan-good bytes cs d) (λ _ _. tt))
+  pub outcome-good : (bytes : List ℕ) (es : List Event) → outcome limits bytes ≡ scanned es → ScanOf Good bytes es
+  outcome-good bytes es e = rw e at (outcome-by (OfOutcome (ScanOf Good bytes)) limits bytes (λ cs d. scan-good bytes cs d) (λ _ _. tt))

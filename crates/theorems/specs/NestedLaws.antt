@@ -35,18 +35,18 @@ nested-one done done = refl
 nested-one (then e h) (then f k) = nested-one h (rw (turn-one f e) at k)
 
 -- events that give tokens, as nested
-pub data Says : List Open → List Event → List Open → Type 0 where
-  silent : {os : List Open} → Says os [] os
-  and-put : {os now os' : List Open} {t : Token} {es : List Event} → Turns (role (t .kind)) os now → Says now es os' → Says os (put t ∷ es) os'
+pub data EventsNest : List Open → List Event → List Open → Type 0 where
+  silent : {os : List Open} → EventsNest os [] os
+  and-put : {os now os' : List Open} {t : Token} {es : List Event} → Turns (role (t .kind)) os now → EventsNest now es os' → EventsNest os (put t ∷ es) os'
 
-pub says-append : {a b c : List Open} {es fs : List Event} → Says a es b → Says b fs c → Says a (es ++ fs) c
+pub says-append : {a b c : List Open} {es fs : List Event} → EventsNest a es b → EventsNest b fs c → EventsNest a (es ++ fs) c
 says-append silent k = k
 says-append (and-put e h) k = and-put e (says-append h k)
 
-pub says-one : {r : Role} {a b : List Open} {t : Token} → role (t .kind) ≡ r → Turns r a b → Says a (put t ∷ []) b
+pub says-one : {r : Role} {a b : List Open} {t : Token} → role (t .kind) ≡ r → Turns r a b → EventsNest a (put t ∷ []) b
 says-one {a = a} {b = b} {t = t} e h = let f : Turns (role (t .kind)) a b = rw e h in and-put f silent
 
-pub says-nested : {a b : List Open} {t : Token} → Says a (put t ∷ []) b → Nested a (t ∷ []) b
+pub says-nested : {a b : List Open} {t : Token} → EventsNest a (put t ∷ []) b → Nested a (t ∷ []) b
 says-nested (and-put e silent) = then e done
 
 -- the tokens of slots
@@ -61,7 +61,7 @@ since-more : {a b c : List Open} (k : ℕ) (xs : List Slot) (t : Token) → k �
 unfolding flat
 since-more k xs t i h e = rw (drop-append-le k xs (slot t [] ∷ []) i, flat-append (drop k xs) (slot t [] ∷ [])) (nested-append h (then e done))
 
-pub since-says : {a b c : List Open} {es : List Event} (k : ℕ) (xs : List Slot) → k ≤ length xs → Nested a (since k xs) b → Says b es c → Nested a (since k (slots xs es)) c
+pub since-says : {a b c : List Open} {es : List Event} (k : ℕ) (xs : List Slot) → k ≤ length xs → Nested a (since k xs) b → EventsNest b es c → Nested a (since k (slots xs es)) c
 unfolding slots
 since-says k xs i h silent = h
 since-says k xs i h (and-put {t = t} e s) = since-says k (xs ++ (slot t [] ∷ [])) (omega (arith, length-append xs (slot t [] ∷ []))) (since-more k xs t i h e) s
@@ -86,7 +86,7 @@ pub clear-last : (xs : List Slot) (t : Token) → Clear (length xs) (xs ++ (slot
 clear-last [] t = refl
 clear-last (x ∷ xs) t = clear-last xs t
 
-pub clear-says : {a b : List Open} {es : List Event} (k : ℕ) (xs : List Slot) → Says a es b → Clear k xs → Clear k (slots xs es)
+pub clear-says : {a b : List Open} {es : List Event} (k : ℕ) (xs : List Slot) → EventsNest a es b → Clear k xs → Clear k (slots xs es)
 unfolding slots
 clear-says k xs silent h = h
 clear-says k xs (and-put {t = t} e s) h = clear-says k (xs ++ (slot t [] ∷ [])) s (clear-append k xs (slot t [] ∷ []) h)

@@ -10,7 +10,7 @@ use Rattle.yaml_text.specs.declared.Mark.{Mark}
 use Rattle.yaml_text.specs.Pick.{pick}
 use Rattle.yaml_text.specs.Mark.{Place, edge-of}
 use Rattle.yaml_text.specs.Test.{by-pick, on-pick, true-false}
-use Rattle.yaml_text.specs.PlaceLaws.{Fits}
+use Rattle.yaml_text.specs.PlaceLaws.{FurtherOn}
 use Rattle.yaml_lexeme.specs.Token.{FlowMappingEnd, FlowMappingStart, Kind, Token}
 use Rattle.yaml_lexeme.specs.Role.{Open, block, ends, flow-mapping, neither, role, starts}
 use Rattle.yaml_lexeme.specs.Block.{one-if}
@@ -28,7 +28,7 @@ use Rattle.yaml_scan.specs.SlotLaws.{slots-length}
 use Rattle.yaml_scan.specs.Moves.{Begins, Enters, Move, Tidy, Within, begins, block-start, bracket, closes, goes-in, leaves, opens, parts, tells, uses}
 use Rattle.theorems.specs.Nested.{Nested, closed, done, kept, opened, then}
 use Rattle.theorems.specs.NestedLaws.{Leads, and-put, says-append, says-one, silent}
-use Rattle.theorems.specs.Opened.{Built, Goes, Stays, Turned, blocks, built-saved, built-says, built-top, built-used, built-without, held, inside, leads-says, outside, turned-over}
+use Rattle.theorems.specs.Opened.{Built, MovesOn, Stays, Turned, blocks, built-saved, built-says, built-top, built-used, built-without, held, inside, leads-says, outside, turned-over}
 
 -- what the events of a move turn
 
@@ -53,13 +53,13 @@ pair-end-turns false m o os = silent
 
 -- where the state goes on
 
-stays-on : {i i' : Indents} {p q : Place} → Same i i' → Fits p q → (c : Candidate) → Stays i (p .mark) c → Stays i' (q .mark) c
+stays-on : {i i' : Indents} {p q : Place} → Same i i' → FurtherOn p q → (c : Candidate) → Stays i (p .mark) c → Stays i' (q .mark) c
 stays-on s f Absent h = tt
 stays-on s f (Possible required n k) h =
     let l = f .line-on in
     (omega (arith, s .at), omega arith, λ e. omega (arith, h .2 (omega arith), f .col-on (omega arith)))
 
-pub goes-to : {i i' : Indents} {p q : Place} → Same i i' → Fits p q → Goes i (p .mark) i' (q .mark)
+pub goes-to : {i i' : Indents} {p q : Place} → Same i i' → FurtherOn p q → MovesOn i (p .mark) i' (q .mark)
 goes-to s f = record { same-blocks = s .blocks; stays = stays-on s f }
 
 -- the state s, with its slots
@@ -152,8 +152,8 @@ entered {i} {m} {xs} {n} {ks} pair r b e (inside {ls = ls} h t k) =
     rw (e .1, f) (inside tt (e .2 .tidy t) g)
 
 -- a move from the state s over the token t to the place q
-module _ (s : State) (t : Token) (q : Place) (xs : List Slot) (f : Fits (s .place) q) where
-  onward : Goes (s .indents) (mark-of s) (s .indents) (q .mark)
+module _ (s : State) (t : Token) (q : Place) (xs : List Slot) (f : FurtherOn (s .place) q) where
+  onward : MovesOn (s .indents) (mark-of s) (s .indents) (q .mark)
   onward = goes-to (same-refl _) f
 
   -- a token that may be the next candidate

@@ -10,7 +10,7 @@ use Rattle.yaml_text.specs.declared.Mark.{Mark}
 use Rattle.yaml_text.specs.Mark.{Place, edge-of, origin}
 use Rattle.yaml_text.specs.Test.{by-test, true-false}
 use Rattle.yaml_text.specs.All.{All}
-use Rattle.yaml_text.specs.PlaceLaws.{Fits, fits-refl}
+use Rattle.yaml_text.specs.PlaceLaws.{FurtherOn, fits-refl}
 use Rattle.yaml_lexeme.specs.Token.{StreamEnd, StreamStart, Token, empty-token}
 use Rattle.yaml_lexeme.specs.Role.{Open, role}
 use Rattle.yaml_scan.specs.declared.Candidate.{Candidate}
@@ -46,7 +46,7 @@ calm m Absent h = tt
 calm m (Possible required n k) h = h
 
 -- the same slots, further on
-further : {i : Indents} {p q : Place} {xs : List Slot} {u : List Open} {n : ℕ} {ks : List Candidate} {ls : List Level} → Fits p q → Built i (p .mark) xs u n ks ls → Built i (q .mark) xs u n ks ls
+further : {i : Indents} {p q : Place} {xs : List Slot} {u : List Open} {n : ℕ} {ks : List Candidate} {ls : List Level} → FurtherOn p q → Built i (p .mark) xs u n ks ls → Built i (q .mark) xs u n ks ls
 unfolding slots
 further {xs = xs} {u = u} {n = n} f h = built-says {es = []} u u xs (le-refl n) (λ os. silent) (goes-to (same-refl _) f) h
 

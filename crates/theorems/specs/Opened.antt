@@ -22,7 +22,7 @@ use Rattle.yaml_scan.specs.State.{Event, put}
 use Rattle.yaml_scan.specs.Slots.{Slot, flat, note, slot, slots}
 use Rattle.yaml_scan.specs.Moves.{Tidy, bracket}
 use Rattle.theorems.specs.Nested.{Nested}
-use Rattle.theorems.specs.NestedLaws.{Clear, Leads, Says, clear-last, clear-noted, clear-says, clear-within, says-nested, silent, since-noted, since-says}
+use Rattle.theorems.specs.NestedLaws.{Clear, Leads, EventsNest, clear-last, clear-noted, clear-says, clear-within, says-nested, silent, since-noted, since-says}
 
 -- what a level holds open, the latest first: its bracket, and an implicit pair
 abbrev pub held : Level → List Open
@@ -55,7 +55,7 @@ pub data Built (i : Indents) (m : Mark) (xs : List Slot) : List Open → ℕ →
 
 -- events that make v of u, which is open, whatever was open before u
 abbrev pub Turned : List Open → List Event → List Open → Type 0
-Turned u es v = (os : List Open) → Says (u ++ os) es (v ++ os)
+Turned u es v = (os : List Open) → EventsNest (u ++ os) es (v ++ os)
 
 pub turned-over : {es : List Event} (u v x : List Open) → Turned u es v → Turned (u ++ x) es (v ++ x)
 turned-over u v x e os = rw (append-assoc u x os, append-assoc v x os) (e (x ++ os))
@@ -73,12 +73,12 @@ below-less n n' Absent b = b
 below-less n n' (Possible required k m) b = le-refl k
 
 -- the state goes on to another mark; entries that end no block may have come or gone
-pub record Goes (i : Indents) (m : Mark) (i' : Indents) (m' : Mark) : Type 0 where
+pub record MovesOn (i : Indents) (m : Mark) (i' : Indents) (m' : Mark) : Type 0 where
   pub same-blocks : blocks-of i' ≡ blocks-of i
   pub stays : (c : Candidate) → Stays i m c → Stays i' m' c
 
 pub built-says : {i i' : Indents} {m m' : Mark} {n n' : ℕ} {ks : List Candidate} {ls : List Level} {es : List Event} (u v : List Open) (xs : List Slot) → n ≤ n'
-    → Turned u es v → Goes i m i' m' → Built i m xs u n ks ls → Built i' m' (slots xs es) v n' ks ls
+    → Turned u es v → MovesOn i m i' m' → Built i m xs u n ks ls → Built i' m' (slots xs es) v n' ks ls
 built-says {i} {i'} {es = es} u v xs b e g (outside {c = c} h s l) =
     let k : Leads 0 (v ++ blocks i') (slots xs es) = rw (g .same-blocks) (leads-says 0 (u ++ blocks i) (v ++ blocks i) xs (omega arith) (turned-over u v (blocks i) e) l) in
     outside (since-turned u v xs c b e h) (g .stays c s) k
@@ -90,7 +90,7 @@ below-most : (n : ℕ) (u : List Open) (xs : List Slot) (c : Candidate) → Sinc
 below-most n u xs Absent h = le-refl n
 below-most n u xs (Possible required k m) h = omega (arith, h .0)
 
-goes-nowhere : {i : Indents} {m : Mark} → Goes i m i m
+goes-nowhere : {i : Indents} {m : Mark} → MovesOn i m i m
 goes-nowhere = record { same-blocks = refl; stays = λ _ h. h }
 
 built-more : {i : Indents} {m : Mark} {xs : List Slot} {u : List Open} {n n' : ℕ} {ks : List Candidate} {ls : List Level} → n ≤ n' → Built i m xs u n ks ls → Built i m xs u n' ks ls
@@ -120,7 +120,7 @@ built-with c h s (outside _ _ l) = outside h (s refl) l
 built-with c h s (inside _ t k) = inside h t k
 
 pub built-saved : {i i' : Indents} {m m' : Mark} {n : ℕ} {ks : List Candidate} {ls : List Level} (u : List Open) (t : Token) (xs : List Slot) (required : Bool) (k : Mark)
-    → length xs < n → Turned [] (put t ∷ []) u → Goes i m i' m' → (ls ≡ [] → Stays i' m' (Possible required (length xs) k))
+    → length xs < n → Turned [] (put t ∷ []) u → MovesOn i m i' m' → (ls ≡ [] → Stays i' m' (Possible required (length xs) k))
     → Built i m xs [] (length xs) ks ls → Built i' m' (slots xs (put t ∷ [])) u n (set-key (Possible required (length xs) k) ks) ls
 built-saved u t xs required k b e g s h =
     built-with (Possible required (length xs) k) (next-since u t xs required k b e) s (built-says [] u xs (le-refl (length xs)) e g (built-without h))

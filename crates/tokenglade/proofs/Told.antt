@@ -7,10 +7,10 @@ use Rattle.yaml_scan.specs.Scan.{standard}
 use Rattle.scanner.specs.declared.Answer.{Answer}
 use Rattle.scanner.specs.Promise.{verdict-of}
 use Rattle.scanner.specs.Promise as scanner
-use Rattle.tokenglade.specs.Numbers.{Answers, numbers}
+use Rattle.tokenglade.specs.Numbers.{GivesNumbers, numbers}
 
 pub told : {text words₀ bytes₀ words bytes ns : List ℕ} (r : Answer) → scanner.Answers standard text words₀ bytes₀ words bytes r → ns ≡ numbers (verdict-of r)
-    → Answers text words₀ bytes₀ words bytes ns
+    → GivesNumbers text words₀ bytes₀ words bytes ns
 told r p e =
     record {
       told = e ∙ ap (λ (x : definition.Answer). numbers (x .verdict)) p;

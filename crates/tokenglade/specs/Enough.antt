@@ -10,7 +10,7 @@ use Rattle.yaml_lexeme.specs.Record.{mark-in, record-words}
 use Rattle.yaml_scan.specs.Budget.{Decided, answer-decided}
 use Rattle.yaml_scan.specs.Scan.{Verdict, accepted, answer, no-verdict, outcome, refusal, standard, stopped}
 use Rattle.theorems.specs.Answered.{Gives, Refuses, Ruled, accepted-gives, enough-room, refused-number, refused-says}
-use Rattle.tokenglade.specs.Numbers.{Answers, numbers}
+use Rattle.tokenglade.specs.Numbers.{GivesNumbers, numbers}
 
 module _ (text words₀ bytes₀ words bytes ns : List ℕ) where
   -- accepted: there is demand 2's list, of T tokens and D decoded bytes, and the words and bytes are its own
@@ -33,7 +33,7 @@ module _ (text words₀ bytes₀ words bytes ns : List ℕ) where
       rw q (inr (refused-number standard text (length words₀) (length bytes₀) (r .0), r .0, r .1, r .2))
   by-verdict no-verdict h q e = absurd h
 
-  module _ (p : Answers text words₀ bytes₀ words bytes ns) where
+  module _ (p : GivesNumbers text words₀ bytes₀ words bytes ns) where
     either : Accepted ⊎ Refused
     either =
         by-verdict (answer standard text (length words₀) (length bytes₀) .verdict) (answer-decided standard text (length words₀) (length bytes₀)) (p .told)

@@ -12,7 +12,7 @@ numbers (refusal n m t d) = n ∷ m .index ∷ m .line ∷ m .col ∷ t ∷ d �
 numbers no-verdict = []
 
 -- from rooms with these contents to those, and to the numbers ns, as the definition has it
-pub record Answers (text words₀ bytes₀ words bytes ns : List ℕ) : Type 0 where
+pub record GivesNumbers (text words₀ bytes₀ words bytes ns : List ℕ) : Type 0 where
   pub told : ns ≡ numbers (answer standard text (length words₀) (length bytes₀) .verdict)
   pub words-left : words ≡ answer standard text (length words₀) (length bytes₀) .words
   pub bytes-left : bytes ≡ answer standard text (length words₀) (length bytes₀) .bytes

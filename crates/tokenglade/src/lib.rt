@@ -2,7 +2,7 @@
 ghost use mathlib.Core.Path.{_≡_};
 ghost use Rattle.scanner.specs.Promise.{verdict-of};
 ghost use Rattle.tokenglade.specs.Next.{Continues, next-numbers};
-ghost use Rattle.tokenglade.specs.Numbers.{Answers, numbers};
+ghost use Rattle.tokenglade.specs.Numbers.{GivesNumbers, numbers};
 use driver::held::HELD_WORDS;
 use records::RECORD_WORDS;
 use scanner::Answer;
@@ -31,7 +31,7 @@ pub extern "C" fn tokenglade_scan(
     bytes: &mut [u8],
     answer: &mut [u32; 6],
 )
-    ensures { λ _. ⌜ Answers (now (text .entry)) (now (words .entry)) (now (bytes .entry)) (now (words .exit)) (now (bytes .exit)) (now (answer .exit)) ⌝ }
+    ensures { λ _. ⌜ GivesNumbers (now (text .entry)) (now (words .entry)) (now (bytes .entry)) (now (words .exit)) (now (bytes .exit)) (now (answer .exit)) ⌝ }
 {
     *answer = numbers_of(scan(text, words, bytes));
 }

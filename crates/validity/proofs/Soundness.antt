@@ -21,7 +21,7 @@ use Rattle.yaml_text.specs.Utf8Laws.{first-fits}
 use Rattle.validity.specs.declared.Checked.{Checked}
 use Rattle.validity.specs.declared.Checked.the-variants.{Refused, Sound}
 use Rattle.validity.specs.Checked.{checked}
-use Rattle.validity.specs.Sound.{Goes, good-len, onto, passes, past, sound, stops}
+use Rattle.validity.specs.Sound.{PassesTo, good-len, onto, passes, past, sound, stops}
 use Rattle.validity.proofs.DecodeTurns.{checked-char, some-left, turn, turn-none, turn-nul}
 
 pub passes-sound : (r : Checked) → passes r ≡ true → Sound ≡ r
@@ -65,12 +65,12 @@ by-good Ill n e z f = absurd (z e)
 by-good End n e z f = absurd (z e)
 
 -- one step of the pass, over n bytes
-pub record Next (s : List ℕ) (at n : ℕ) : Type 0 where
+pub record PassStep (s : List ℕ) (at n : ℕ) : Type 0 where
   pub some : 1 ≤ n
   pub within : at + n ≤ length s
   pub same : sound (drop at s) ≡ sound (drop (at + n) s)
 
-pub next : (s : List ℕ) (at n : ℕ) → at ≤ length s → n ≡ good-len (first (drop at s)) → (n ≡ 0 → ⊥) → Next s at n
+pub next : (s : List ℕ) (at n : ℕ) → at ≤ length s → n ≡ good-len (first (drop at s)) → (n ≡ 0 → ⊥) → PassStep s at n
 next s at n h e z = by-good (first (drop at s)) n e z (λ c f q.
     let fits = first-fits (drop at s) c n f in
     let l = length-drop at s in
@@ -96,7 +96,7 @@ pub record Went (s : List ℕ) (at upto r : ℕ) : Type 0 where
   pub same : sound (drop at s) ≡ sound (drop r s)
   pub short : r < upto → sound (drop r s) ≡ false
 
-pub went : {s : List ℕ} {at upto r : ℕ} → at ≤ length s → upto ≤ length s → Goes s upto at r → Went s at upto r
+pub went : {s : List ℕ} {at upto r : ℕ} → at ≤ length s → upto ≤ length s → PassesTo s upto at r → Went s at upto r
 went h u (past l) = record { onward = omega arith; within = h; same = refl; short = λ k. absurd (omega arith) }
 went {s} {at} h u (stops {n = n} l e z) =
     record { onward = omega arith; within = h; same = refl; short = λ _. sound-stop (drop at s) n (some-left s at (omega arith)) e z }

@@ -31,10 +31,10 @@ good-len Ill = 0
 good-len End = 0
 
 -- by characters from a place on, until `upto` or where none other than NUL begins
-pub data Goes (s : List ℕ) (upto : ℕ) : ℕ → ℕ → Type 0 where
-  past : {at : ℕ} → upto ≤ at → Goes s upto at at
-  stops : {at n : ℕ} → at < upto → n ≡ good-len (first (drop at s)) → n ≡ 0 → Goes s upto at at
-  onto : {at n r : ℕ} → at < upto → n ≡ good-len (first (drop at s)) → (n ≡ 0 → ⊥) → Goes s upto (at + n) r → Goes s upto at r
+pub data PassesTo (s : List ℕ) (upto : ℕ) : ℕ → ℕ → Type 0 where
+  past : {at : ℕ} → upto ≤ at → PassesTo s upto at at
+  stops : {at n : ℕ} → at < upto → n ≡ good-len (first (drop at s)) → n ≡ 0 → PassesTo s upto at at
+  onto : {at n r : ℕ} → at < upto → n ≡ good-len (first (drop at s)) → (n ≡ 0 → ⊥) → PassesTo s upto (at + n) r → PassesTo s upto at r
 
 -- where a block of 64 bytes ends, or the text
 abbrev pub block-end : ℕ → ℕ → ℕ

@@ -7,7 +7,7 @@ ghost use Rattle.yaml_text.specs.Mark.{origin};
 ghost use Rattle.yaml_text.specs.Decode.{decode};
 ghost use Rattle.validity.specs.Checked.{checked};
 ghost use Rattle.validity.specs.declared.Checked.the-variants.{Refused};
-ghost use Rattle.validity.specs.Sound.{Goes, block-end, good-len, sound};
+ghost use Rattle.validity.specs.Sound.{PassesTo, block-end, good-len, sound};
 use chars::block::ByteClass;
 use chars::block::all_of;
 use chars::mark::Place;
@@ -78,7 +78,7 @@ fn char_len(s: &[u8], at: usize) -> usize
 // Goes on by characters from `at` until `upto`, or stops before it where no character other than NUL begins.
 fn go_slow(s: &[u8], at: usize, upto: usize) -> usize
     requires { ⌜ (at < upto) × (upto ≤ length (now s)) ⌝ }
-    ensures { λ r. ⌜ Goes (now (s .entry)) upto at r ⌝ }
+    ensures { λ r. ⌜ PassesTo (now (s .entry)) upto at r ⌝ }
 {
     let mut i = at;
     while i < upto {

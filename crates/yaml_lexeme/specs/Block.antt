@@ -99,25 +99,25 @@ pub record Layout : Type 0 where
   pub column : ℕ
 
 -- between content lines
-pub data Between : Type 0 where
+pub data BetweenLines : Type 0 where
   -- before the first one, n lines after the header's
-  ahead : ℕ → Between
+  ahead : ℕ → BetweenLines
   -- behind one that opened with a blank or not, and n more lines
-  behind : Bool → ℕ → Between
+  behind : Bool → ℕ → BetweenLines
 
 -- where a character of the content stands
 pub data Line : Type 0 where
-  between : Between → Line
+  between : BetweenLines → Line
   -- in a content line; whether it opened with a blank
   inside : Bool → Line
 
 -- 8.1.2, 8.1.3: what the breaks before a content line become: blank: whether it opens with a blank. Lines that open with one are not folded
-unfoldable pub separator : Bool → Bool → Between → List ℕ
+unfoldable pub separator : Bool → Bool → BetweenLines → List ℕ
 separator literal blank (ahead n) = replicate n line-feed
 separator literal blank (behind w n) = pick (literal || w || blank) (replicate (suc n) line-feed) (fold (suc n))
 
 -- n more line ends
-unfoldable pub lines-on : ℕ → Between → Between
+unfoldable pub lines-on : ℕ → BetweenLines → BetweenLines
 lines-on n (ahead k) = ahead (k + n)
 lines-on n (behind w k) = behind w (k + n)
 
@@ -126,7 +126,7 @@ pub data ContentTurn : Type 0 where
   content-stops : ContentTurn
 
 -- between content lines: over empty lines and spaces up to the column, then a content line or the end of the scalar
-unfoldable pub opening-turn : Layout → Between → Mark → ℕ → List ℕ → ContentTurn
+unfoldable pub opening-turn : Layout → BetweenLines → Mark → ℕ → List ℕ → ContentTurn
 opening-turn b l m c cs =
     elim ((eqb c space && ltb (m .col) (b .column)) || is-break c) [
       | true ↦ writes [] (between (lines-on (ends-line c (peek cs 0)) l))

@@ -14,7 +14,7 @@ use Rattle.yaml_text.specs.Mark.{Place, Run, ends-line, here, look, over, skip-
 use Rattle.yaml_text.specs.Test.{by-test, on-pick, true-false}
 use Rattle.yaml_text.specs.All.{All, all-any, all-bind, all-need, all-test, all-weak, holds, not-read}
 use Rattle.yaml_text.specs.DecodeLaws.{NoNul, no-nul-drop}
-use Rattle.yaml_text.specs.PlaceLaws.{Fits, fits-no-nul, fits-over, fits-refl, fits-trans, skip-break-fit, skip-break-line, skip-fit, there}
+use Rattle.yaml_text.specs.PlaceLaws.{FurtherOn, fits-no-nul, fits-over, fits-refl, fits-trans, skip-break-fit, skip-break-line, skip-fit, there}
 use Rattle.yaml_lexeme.specs.declared.Style.{Style}
 use Rattle.yaml_lexeme.specs.Token.{Lexeme}
 use Rattle.yaml_lexeme.specs.Block.{ContentTurn, Header, Layout, Line, Margin, after-content, ahead, between, block-content, content, content-column, content-stops, content-turn, increment-of, indicators, is-chomp, margin, one-if, opens-content, scan-block-scalar, writes}
@@ -32,7 +32,7 @@ content-fit b l m (c ∷ cs) =
     (λ l'. fits-over m c (peek cs 0) cs (content-fit b l' (over m c (peek cs 0)) cs))
     (fits-refl _)
 
-pub margin-fit : (column n : ℕ) (m : Mark) (cs : List ℕ) → Fits (here m cs) (margin column n m cs .place)
+pub margin-fit : (column n : ℕ) (m : Mark) (cs : List ℕ) → FurtherOn (here m cs) (margin column n m cs .place)
 unfolding margin
 margin-fit column n m [] = fits-refl _
 margin-fit column n m (c ∷ cs) =
@@ -42,7 +42,7 @@ margin-fit column n m (c ∷ cs) =
 
 -- a block scalar goes on from p; its token starts at the mark, or text was left at p
 record Blocks (start : Mark) (p : Place) (l : Lexeme) : Type 0 where
-  onward : Fits p (l .place)
+  onward : FurtherOn p (l .place)
   starts : (l .token .start ≡ start) ⊎ (none-left (p .rest) ≡ false)
 
 block-content-fit : (b : Layout) (style : Style) (parent : ℕ) (start : Mark) (g : Margin) → All Lexeme (Blocks start (g .place)) (block-content b style parent start g)
@@ -59,7 +59,7 @@ both-there : (f g : ℕ → Bool) (cs : List ℕ) → f 0 ≡ false → g 0 ≡ 
 both-there f g cs e e' h =
     on-pick (λ n. 1 + n ≤ length cs) (g (peek cs 1)) (λ k. there g cs 1 e' k) (λ _. there f cs 0 e h)
 
-pub indicators-fit : (start : Mark) (p : Place) → All Header (λ h. Fits p (h .place)) (indicators start p)
+pub indicators-fit : (start : Mark) (p : Place) → All Header (λ h. FurtherOn p (h .place)) (indicators start p)
 unfolding indicators is-chomp is-digit
 indicators-fit start p =
     by-test (is-chomp (look p))
@@ -76,7 +76,7 @@ drop-some zero cs e = e
 drop-some (suc n) [] e = e
 drop-some (suc n) (c ∷ cs) e = refl
 
-some-left : {p q : Place} → Fits p q → none-left (q .rest) ≡ false → none-left (p .rest) ≡ false
+some-left : {p q : Place} → FurtherOn p q → none-left (q .rest) ≡ false → none-left (p .rest) ≡ false
 some-left {p} f e = drop-some (f .taken) (p .rest) (rw (f .rest-is) at e)
 
 -- where text is left, a break or the end is a break
@@ -87,11 +87,11 @@ breaks (c ∷ cs) n e b = by-test (is-break c) (λ f. f) (λ f. true-false (sym 
 
 -- it takes its indicator; its token starts there, or its line is over
 pub record ReadsBlock (p : Place) (l : Lexeme) : Type 0 where
-  pub onward : Fits (skip-by 1 p) (l .place)
+  pub onward : FurtherOn (skip-by 1 p) (l .place)
   pub starts : NoNul (p .rest) → (l .token .start ≡ p .mark) ⊎ (p .mark .line < l .place .mark .line)
 
 -- p: behind the indicator, e: behind the header, q: where content was looked for
-block-line : {p e q r : Place} → Fits p e → is-breakz (look e) ≡ true → Fits (skip-break e) q → Fits q r → NoNul (p .rest) → none-left (q .rest) ≡ false
+block-line : {p e q r : Place} → FurtherOn p e → is-breakz (look e) ≡ true → FurtherOn (skip-break e) q → FurtherOn q r → NoNul (p .rest) → none-left (q .rest) ≡ false
     → p .mark .line < r .mark .line
 block-line {e} f z g h n s =
     let k = skip-break-line e (breaks (e .rest) (fits-no-nul f n) (some-left (fits-trans (skip-break-fit e) g) s) z) in

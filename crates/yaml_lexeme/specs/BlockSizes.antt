@@ -19,13 +19,13 @@ use Rattle.yaml_lexeme.specs.declared.Chomping.the-variants.{Clip, Keep,
 use Rattle.yaml_lexeme.specs.declared.Style.{Style}
 use Rattle.yaml_lexeme.specs.Token.{Lexeme, kind-bytes, size}
 use Rattle.yaml_lexeme.specs.Role.{role}
-use Rattle.yaml_lexeme.specs.Block.{Between, ContentTurn, Layout, Line, Margin, after-content, ahead, behind, between, block-content, chomped, content, content-column, content-end, content-stops, content-turn, inside, lines-after, lines-on, margin, no-content, opening-turn, opens-content, own-break, scan-block-scalar, separator, writes}
+use Rattle.yaml_lexeme.specs.Block.{BetweenLines, ContentTurn, Layout, Line, Margin, after-content, ahead, behind, between, block-content, chomped, content, content-column, content-end, content-stops, content-turn, inside, lines-after, lines-on, margin, no-content, opening-turn, opens-content, own-break, scan-block-scalar, separator, writes}
 use Rattle.yaml_lexeme.specs.Fits.{blanks-and-comment-fit}
 use Rattle.yaml_lexeme.specs.BlockFits.{indicators-fit}
 use Rattle.yaml_lexeme.specs.Sizes.{Lexed, Pays, PaysRun, fold-size, size-append, size-cons, size-feeds, size-fits, size-first, size-nil, size-one, width, width-some}
 
 -- the line feeds that were paid for the lines behind which a character stands
-abbrev due : Between → ℕ
+abbrev due : BetweenLines → ℕ
 due (ahead n) = n
 due (behind w n) = suc n
 
@@ -33,7 +33,7 @@ abbrev owed : Line → ℕ
 owed (between l) = due l
 owed (inside w) = 0
 
-separator-paid : (literal blank : Bool) (l : Between) → size (separator literal blank l) ≤ due l
+separator-paid : (literal blank : Bool) (l : BetweenLines) → size (separator literal blank l) ≤ due l
 unfolding separator
 separator-paid literal blank (ahead n) = omega (arith, size-feeds n)
 separator-paid literal blank (behind w n) =
@@ -59,7 +59,7 @@ chomped-paid Keep last l =
     let t = pick last (line-feed ∷ []) [] in
     omega (arith, own-paid l, last-one last, size-append (own-break l) t, size-append (own-break l ++ t) (lines-after l))
 
-lines-on-paid : (n : ℕ) (l : Between) → due (lines-on n l) ≤ n + due l
+lines-on-paid : (n : ℕ) (l : BetweenLines) → due (lines-on n l) ≤ n + due l
 unfolding lines-on
 lines-on-paid n (ahead k) = omega arith
 lines-on-paid n (behind w k) = omega arith
@@ -74,7 +74,7 @@ abbrev PaysContent : ℕ → ℕ → ContentTurn → Type 0
 PaysContent k c (writes t l) = 2 * size t + 2 * owed l ≤ 2 * k + 3 * width c
 PaysContent k c content-stops = Unit {0}
 
-opening-pays : (b : Layout) (l : Between) (m : Mark) (c : ℕ) (cs : List ℕ) → PaysContent (due l) c (opening-turn b l m c cs)
+opening-pays : (b : Layout) (l : BetweenLines) (m : Mark) (c : ℕ) (cs : List ℕ) → PaysContent (due l) c (opening-turn b l m c cs)
 unfolding opening-turn
 opening-pays b l m c cs =
     by-test ((eqb c space && ltb (m .col) (b .column)) || is-break c)

@@ -14,23 +14,23 @@ use Rattle.yaml_text.specs.Mark.{Place, Run, along, before-run, here, look, not
 use Rattle.yaml_text.specs.Refusal.{Read, before-read}
 use Rattle.yaml_text.specs.Test.{by-pick, by-test}
 use Rattle.yaml_text.specs.All.{All, all-bind, all-need, all-weak, holds, not-read}
-use Rattle.yaml_text.specs.PlaceLaws.{Fits, fits-along, fits-over, fits-refl, fits-trans}
+use Rattle.yaml_text.specs.PlaceLaws.{FurtherOn, fits-along, fits-over, fits-refl, fits-trans}
 use Rattle.yaml_lexeme.specs.Token.{Lexeme}
 use Rattle.yaml_lexeme.specs.Gap.{Gap, GapTurn, after-gap-turn, blanks, blanks-and-comment, comment-after, gap-turn, pass, skip-gap, stop, to-break, wrong}
 use Rattle.yaml_lexeme.specs.Plain.{glue, plain-stops, plain-text, scan-plain-scalar}
 use Rattle.yaml_lexeme.specs.Quoted.{Mode, Quote, QuotedTurn, after-turn, chars-of, closes, goes, quoted-run, quoted-turn, scan-flow-scalar, wrong-quote}
 
 abbrev pub FitsRun : Place → Run → Type 0
-FitsRun p r = Fits p (r .place)
+FitsRun p r = FurtherOn p (r .place)
 
 -- a lexeme that goes on from p, and whose token starts at the mark
 pub record Reads (start : Mark) (p : Place) (l : Lexeme) : Type 0 where
-  pub onward : Fits p (l .place)
+  pub onward : FurtherOn p (l .place)
   pub starts : l .token .start ≡ start
 
 -- gaps
 
-pub blanks-fit : (m : Mark) (cs : List ℕ) → Fits (here m cs) (blanks m cs)
+pub blanks-fit : (m : Mark) (cs : List ℕ) → FurtherOn (here m cs) (blanks m cs)
 unfolding blanks
 blanks-fit m [] = fits-refl _
 blanks-fit m (c ∷ cs) =
@@ -38,7 +38,7 @@ blanks-fit m (c ∷ cs) =
     (λ e. rw (e, blanks) (fits-along m c cs (blanks-fit (along m) cs)))
     (λ e. rw (e, blanks) (fits-refl _))
 
-pub to-break-fit : (m : Mark) (cs : List ℕ) → Fits (here m cs) (to-break m cs)
+pub to-break-fit : (m : Mark) (cs : List ℕ) → FurtherOn (here m cs) (to-break m cs)
 unfolding to-break
 to-break-fit m [] = fits-refl _
 to-break-fit m (c ∷ cs) =
@@ -46,7 +46,7 @@ to-break-fit m (c ∷ cs) =
     (λ e. rw (e, to-break) (fits-refl _))
     (λ e. rw (e, to-break) (fits-along m c cs (to-break-fit (along m) cs)))
 
-pub comment-after-fit : (b : Bool) (p : Place) → All Place (Fits p) (comment-after b p)
+pub comment-after-fit : (b : Bool) (p : Place) → All Place (FurtherOn p) (comment-after b p)
 unfolding comment-after
 comment-after-fit true p =
     by-test (eqb (look p) '#')
@@ -57,7 +57,7 @@ comment-after-fit false p =
     (λ e. rw (e, comment-after) not-read)
     (λ e. rw (e, comment-after) (holds (fits-refl p)))
 
-pub blanks-and-comment-fit : (p : Place) → All Place (Fits p) (blanks-and-comment p)
+pub blanks-and-comment-fit : (p : Place) → All Place (FurtherOn p) (blanks-and-comment p)
 unfolding blanks-and-comment
 blanks-and-comment-fit p =
     all-weak (λ q f. fits-trans (blanks-fit (p .mark) (p .rest)) f) (comment-after-fit (is-blank (look p)) (blanks (p .mark) (p .rest)))
@@ -68,7 +68,7 @@ gap-turned (pass b a) go end h k = h b a
 gap-turned stop go end h k = holds k
 gap-turned (wrong x m) go end h k = not-read
 
-pub skip-gap-fit : (flow allowed : Bool) (b : Before) (m : Mark) (cs : List ℕ) → All Gap (λ g. Fits (here m cs) (g .place)) (skip-gap flow allowed b m cs)
+pub skip-gap-fit : (flow allowed : Bool) (b : Before) (m : Mark) (cs : List ℕ) → All Gap (λ g. FurtherOn (here m cs) (g .place)) (skip-gap flow allowed b m cs)
 unfolding skip-gap
 skip-gap-fit flow allowed b m [] = holds (fits-refl _)
 skip-gap-fit flow allowed b m (c ∷ cs) =
@@ -99,7 +99,7 @@ unfolding before-read
 before-fit t (holds h) = holds h
 before-fit t not-read = not-read
 
-turned : {q : Place} (t : QuotedTurn) (go : Mode → ℕ → Read Run) (p : Place) → ((b : Mode) (k : ℕ) → All Run (FitsRun q) (go b k)) → Fits q p
+turned : {q : Place} (t : QuotedTurn) (go : Mode → ℕ → Read Run) (p : Place) → ((b : Mode) (k : ℕ) → All Run (FitsRun q) (go b k)) → FurtherOn q p
     → All Run (FitsRun q) (after-turn t go p)
 turned (goes t b k) go p h i = before-fit t (h b k)
 turned (closes t) go p h i = holds i

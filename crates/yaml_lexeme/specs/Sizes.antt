@@ -15,7 +15,7 @@ use Rattle.yaml_text.specs.Mark.{Place, Run, along, before-run, here, look, not
 use Rattle.yaml_text.specs.Refusal.{Read, before-read}
 use Rattle.yaml_text.specs.Test.{by-pick, by-test}
 use Rattle.yaml_text.specs.All.{All, holds, not-read}
-use Rattle.yaml_text.specs.PlaceLaws.{Fits, left}
+use Rattle.yaml_text.specs.PlaceLaws.{FurtherOn, left}
 use Rattle.yaml_lexeme.specs.Token.{Lexeme, kind-bytes, size, token-bytes}
 use Rattle.yaml_lexeme.specs.Role.{neither, role}
 use Rattle.yaml_lexeme.specs.Fold.{fold}
@@ -78,7 +78,7 @@ pub size-first : (cs : List ℕ) → 1 ≤ length cs → size cs ≡ width (peek
 size-first [] h = absurd (omega arith)
 size-first (c ∷ cs) h = size-cons c cs
 
-pub size-fits : {p q : Place} → Fits p q → size (q .rest) ≤ size (p .rest)
+pub size-fits : {p q : Place} → FurtherOn p q → size (q .rest) ≤ size (p .rest)
 size-fits {p} f = rw (f .rest-is) (drop-less (f .taken) (p .rest))
 
 -- n bytes are decoded from the text cs, of which rest is left; k bytes of them were paid before

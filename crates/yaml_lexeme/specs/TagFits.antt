@@ -13,7 +13,7 @@ use Rattle.yaml_text.specs.Class.{is-alpha, is-anchor, is-blank, is-digit, is-n
 use Rattle.yaml_text.specs.Mark.{Place, Run, along, here, look, skip-by, run-of}
 use Rattle.yaml_text.specs.Test.{by-test, on-pick}
 use Rattle.yaml_text.specs.All.{All, all-any, all-bind, all-need, all-test, all-weak, holds, not-read}
-use Rattle.yaml_text.specs.PlaceLaws.{Fits, fits-along, fits-refl, fits-trans, left, skip-break-fit, skip-fit, skip-on, there, run-of-fit}
+use Rattle.yaml_text.specs.PlaceLaws.{FurtherOn, fits-along, fits-refl, fits-trans, left, skip-break-fit, skip-fit, skip-on, there, run-of-fit}
 use Rattle.yaml_lexeme.specs.Token.{Lexeme}
 use Rattle.yaml_lexeme.specs.Tag.{Texts, handled, percent, primary, scan-tag, tag-texts, uri-run, verbatim}
 use Rattle.yaml_lexeme.specs.Anchor.{scan-anchor}
@@ -33,10 +33,10 @@ uri-run-fit f start zero m (c ∷ cs) =
 uri-run-fit f start (suc k) m (c ∷ cs) = all-weak (λ r h. fits-along m c cs h) (uri-run-fit f start k (along m) cs)
 
 abbrev pub FitsTexts : Place → Texts → Type 0
-FitsTexts p t = Fits p (t .place)
+FitsTexts p t = FurtherOn p (t .place)
 
 -- past the character that stands here
-over-char : (c : ℕ) (p : Place) → 0 < c → eqb (look p) c ≡ true → Fits p (skip-by 1 p)
+over-char : (c : ℕ) (p : Place) → 0 < c → eqb (look p) c ≡ true → FurtherOn p (skip-by 1 p)
 over-char c p h e = skip-fit 1 p (there (λ d. eqb d c) (p .rest) 0 (ne-eqb 0 c (λ z. absurd (omega arith))) e)
 
 verbatim-fit : (start : Mark) (p : Place) → 2 ≤ left p → All Texts (FitsTexts (skip-by 1 p)) (verbatim start p)
@@ -76,7 +76,7 @@ anchor-fit alias p = all-need _ 27 (p .mark) _ (holds (record { onward = run-of-
 -- directives
 
 abbrev pub FitsNumbered : Place → Numbered → Type 0
-FitsNumbered p v = Fits p (v .place)
+FitsNumbered p v = FurtherOn p (v .place)
 
 pub version-digits-fit : (start : Mark) (n v : ℕ) (m : Mark) (cs : List ℕ) → All Numbered (FitsNumbered (here m cs)) (version-digits start n v m cs)
 unfolding version-digits
@@ -92,7 +92,7 @@ version-number-fit : (start : Mark) (p : Place) → All Numbered (FitsNumbered p
 unfolding version-number
 version-number-fit start p = all-need _ 12 start _ (version-digits-fit start 0 0 (p .mark) (p .rest))
 
-blanks-at-fit : (p : Place) → Fits p (blanks-at p)
+blanks-at-fit : (p : Place) → FurtherOn p (blanks-at p)
 blanks-at-fit p = blanks-fit (p .mark) (p .rest)
 
 pub version-directive-fit : (start : Mark) (p : Place) → All Lexeme (Reads start p) (version-directive start p)

@@ -20,7 +20,7 @@ use Rattle.yaml_scan.specs.declared.Limits.{Limits}
 use Rattle.yaml_scan.specs.State.{Event, News, State, ends-with, goes-on, put}
 use Rattle.yaml_scan.specs.Slots.{tokens-of}
 use Rattle.yaml_scan.specs.Scan.{Outcome, Verdict, accepted, after-events, after-step, answer, answer-for, begin, lent, no-verdict, outcome, refusal, run, scan, scanned, spent, stopped}
-use Rattle.yaml_scan.specs.Candidates.{Given, Placed, Sound, fresh, given, placed-append, ready}
+use Rattle.yaml_scan.specs.Candidates.{GivenToken, Placed, Sound, fresh, given, placed-append, ready}
 use Rattle.yaml_scan.specs.Runs.{step-news}
 
 -- a case by what a step answers
@@ -115,17 +115,17 @@ answer-decided limits bytes w b = outcome-decided (outcome limits bytes) w b (ou
 
 -- what a scan says is placed
 
-abbrev pub PlacedIn : List Given → Outcome → Type 0
+abbrev pub PlacedIn : List GivenToken → Outcome → Type 0
 PlacedIn gs (scanned es) = Placed gs es
 PlacedIn gs (stopped n m) = Unit {0}
 PlacedIn gs spent = Unit {0}
 
-after-events-placed : (gs : List Given) (es : List Event) (o : Outcome) → Placed gs es → PlacedIn (given gs es) o → PlacedIn gs (after-events es o)
+after-events-placed : (gs : List GivenToken) (es : List Event) (o : Outcome) → Placed gs es → PlacedIn (given gs es) o → PlacedIn gs (after-events es o)
 after-events-placed gs es (scanned fs) h k = placed-append gs es fs h k
 after-events-placed gs es (stopped n m) h k = tt
 after-events-placed gs es spent h k = tt
 
-pub run-placed : (limits : Limits) (k : ℕ) (gs : List Given) (s : State) → Sound gs s → PlacedIn gs (run limits k s)
+pub run-placed : (limits : Limits) (k : ℕ) (gs : List GivenToken) (s : State) → Sound gs s → PlacedIn gs (run limits k s)
 unfolding run
 run-placed limits zero gs s h = tt
 run-placed limits (suc k) gs s h =

@@ -21,28 +21,28 @@ use Rattle.yaml_scan.specs.State.{News, State, in-flow, mark-of, rest-of
 use Rattle.yaml_scan.specs.Value.{takes-colon}
 use Rattle.yaml_scan.specs.Choice.{choice, indicator}
 use Rattle.yaml_scan.specs.Fetch.{fetch}
-use Rattle.yaml_scan.specs.Candidates.{Given, top-tops}
+use Rattle.yaml_scan.specs.Candidates.{GivenToken, top-tops}
 use Rattle.yaml_scan.specs.Fetches.{Fetched, anchor-news, block-entry-news, block-scalar-news, byte-order-mark-news, directive-news, document-indicator-news, flow-collection-end-news, flow-collection-start-news, flow-entry-news, flow-scalar-news, key-news, plain-scalar-news, stream-end-news, tag-news, value-by-news}
 
 -- what the fetch of a choice needs to know of the state
-abbrev pub Says : Choice → State → Type 0
-Says AtEnd s = Unit {0}
-Says AtDirective s = (in-flow s ≡ false) × (mark-of s .col ≡ 0)
-Says AtByteOrderMark s = (in-flow s ≡ false) × (mark-of s .col ≡ 0)
-Says BelowIndent s = Unit {0}
-Says Stray s = Unit {0}
-Says (AtMarker begins) s = (3 ≤ left (s .place)) × (mark-of s .col ≡ 0)
-Says (Opens sequence) s = Unit {0}
-Says (Closes sequence) s = Unit {0}
-Says AtComma s = in-flow s ≡ true
-Says AtDash s = is-blank-or-breakz (peek (rest-of s) 1) ≡ true
-Says AtQuestion s = is-blank-or-breakz (peek (rest-of s) 1) ≡ true
-Says AtColon s = takes-colon s ≡ true
-Says AtTag s = Unit {0}
-Says AtPlain s = Unit {0}
-Says (AtAnchor alias) s = Unit {0}
-Says (AtBlock literal) s = in-flow s ≡ false
-Says (AtQuoted single) s = Unit {0}
+abbrev pub ChoiceSays : Choice → State → Type 0
+ChoiceSays AtEnd s = Unit {0}
+ChoiceSays AtDirective s = (in-flow s ≡ false) × (mark-of s .col ≡ 0)
+ChoiceSays AtByteOrderMark s = (in-flow s ≡ false) × (mark-of s .col ≡ 0)
+ChoiceSays BelowIndent s = Unit {0}
+ChoiceSays Stray s = Unit {0}
+ChoiceSays (AtMarker begins) s = (3 ≤ left (s .place)) × (mark-of s .col ≡ 0)
+ChoiceSays (Opens sequence) s = Unit {0}
+ChoiceSays (Closes sequence) s = Unit {0}
+ChoiceSays AtComma s = in-flow s ≡ true
+ChoiceSays AtDash s = is-blank-or-breakz (peek (rest-of s) 1) ≡ true
+ChoiceSays AtQuestion s = is-blank-or-breakz (peek (rest-of s) 1) ≡ true
+ChoiceSays AtColon s = takes-colon s ≡ true
+ChoiceSays AtTag s = Unit {0}
+ChoiceSays AtPlain s = Unit {0}
+ChoiceSays (AtAnchor alias) s = Unit {0}
+ChoiceSays (AtBlock literal) s = in-flow s ≡ false
+ChoiceSays (AtQuoted single) s = Unit {0}
 
 marker-there : (m : Mark) (cs : List ℕ) → is-marker m cs ≡ true → (3 ≤ length cs) × (m .col ≡ 0)
 unfolding is-marker
@@ -54,7 +54,7 @@ marker-there m cs e =
     let dots = h .1 in
     (there (λ d. eqb d c) cs 2 (ne-eqb 0 c (λ z. true-false (sym (rw (← z) at dots)))) (g .1), eqb-true (m .col) 0 (h .0))
 
-indicator-says : (s : State) (c : ℕ) → Says (indicator (in-flow s) (takes-colon s) c (peek (rest-of s) 1)) s
+indicator-says : (s : State) (c : ℕ) → ChoiceSays (indicator (in-flow s) (takes-colon s) c (peek (rest-of s) 1)) s
 unfolding indicator
 indicator-says s c =
     let n = peek (rest-of s) 1 in
@@ -77,9 +77,9 @@ indicator-says s c =
     on-pick P (among c (at-sign ∷ '`' ∷ '%' ∷ byte-order-mark ∷ [])) (λ _. tt) λ _. tt
   where
     P : Choice → Type 0
-    P k = Says k s
+    P k = ChoiceSays k s
 
-pub choice-says : (s : State) → Says (choice s) s
+pub choice-says : (s : State) → ChoiceSays (choice s) s
 unfolding choice
 choice-says s =
     let c = look (s .place) in
@@ -92,14 +92,14 @@ choice-says s =
     indicator-says s c
   where
     P : Choice → Type 0
-    P k = Says k s
+    P k = ChoiceSays k s
 
     at-edge : (eqb (mark-of s .col) 0 && not (in-flow s)) ≡ true → (in-flow s ≡ false) × (mark-of s .col ≡ 0)
     at-edge e =
         let k = both-true (eqb (mark-of s .col) 0) _ e in
         (not-true (in-flow s) (k .1), eqb-true (mark-of s .col) 0 (k .0))
 
-pub fetch-news : (gs : List Given) (limits : Limits) (c : Choice) (s : State) → Says c s → All News (Fetched gs s) (fetch limits c s)
+pub fetch-news : (gs : List GivenToken) (limits : Limits) (c : Choice) (s : State) → ChoiceSays c s → All News (Fetched gs s) (fetch limits c s)
 unfolding fetch
 fetch-news gs limits AtEnd s h = stream-end-news gs s (λ es k. k)
 fetch-news gs limits AtDirective s h = directive-news gs s

@@ -14,7 +14,7 @@ use Rattle.yaml_text.specs.Mark.{Place, edge-of, look, skip-by}
 use Rattle.yaml_text.specs.Refusal.{got}
 use Rattle.yaml_text.specs.Test.{both-true, by-pick, true-false}
 use Rattle.yaml_text.specs.All.{All, all-bind, all-need, all-test, holds, not-read}
-use Rattle.yaml_text.specs.PlaceLaws.{Fits, left}
+use Rattle.yaml_text.specs.PlaceLaws.{FurtherOn, left}
 use Rattle.yaml_lexeme.specs.Token.{BlockEntry, ByteOrderMark, DocumentEnd, DocumentStart, FlowEntry, FlowMappingEnd, FlowMappingStart, FlowSequenceEnd, FlowSequenceStart, Key, Kind, Lexeme, StreamEnd, Token, Value, empty-token, kind-bytes, size}
 use Rattle.yaml_lexeme.specs.Fits.{blanks-and-comment-fit}
 use Rattle.yaml_lexeme.specs.Role.{ends, neither, role, starts}
@@ -37,7 +37,7 @@ use Rattle.yaml_scan.specs.declared.Choice.the-variants.{AtAnchor, AtBlo
 use Rattle.yaml_scan.specs.Document.{fetch-byte-order-mark, fetch-directive, fetch-document-indicator, fetch-stream-end, forced, leave-blocks}
 use Rattle.yaml_scan.specs.Fetch.{fetch, fetch-anchor, fetch-block-scalar, fetch-flow-scalar, fetch-plain-scalar, fetch-tag}
 use Rattle.yaml_scan.specs.Fetches.{after-marker-fit, stack-bracket-is}
-use Rattle.yaml_scan.specs.ChoiceLaws.{Says}
+use Rattle.yaml_scan.specs.ChoiceLaws.{ChoiceSays}
 use Rattle.yaml_scan.specs.Moves.{Enters, Move, Moves, Paid, begins, bracket, closes, leaves, opens, parts, tells, uses}
 
 moved : {s : State} {es : List Event} {u : State} (t : Token) → Paid s t (u .place) → Move s t (u .place) es (u .indents) (u .keys) (u .levels)
@@ -108,11 +108,11 @@ stream-end-moves s =
 
 -- brackets and ','
 
-bracket-is : (k : Kind) (p : Place) → All Lexeme (λ l. (l .token .kind ≡ k) × Fits (skip-by 1 p) (l .place)) (scan-bracket k p)
+bracket-is : (k : Kind) (p : Place) → All Lexeme (λ l. (l .token .kind ≡ k) × FurtherOn (skip-by 1 p) (l .place)) (scan-bracket k p)
 unfolding scan-bracket
 bracket-is k p = all-bind _ (blanks-and-comment-fit (skip-by 1 p)) (λ e f. holds (refl, f))
 
-bracket-silent : (s : State) (k : Kind) (l : Lexeme) → kind-bytes k ≡ [] → (l .token .kind ≡ k) × Fits (skip-by 1 (s .place)) (l .place) → Paid s (l .token) (l .place)
+bracket-silent : (s : State) (k : Kind) (l : Lexeme) → kind-bytes k ≡ [] → (l .token .kind ≡ k) × FurtherOn (skip-by 1 (s .place)) (l .place) → Paid s (l .token) (l .place)
 bracket-silent s k l e f = rw (f .0) (silent k (rest-of s) (l .place .rest) e (omega (arith, drop-less 1 (rest-of s), size-fits (f .1))))
 
 bracket-roles : (sequence : Bool)
@@ -231,7 +231,7 @@ value-moves limits Absent s h e = value-without-moves limits s e
 value-moves limits (Possible required n m) s h e = value-with-moves limits required n m s h e
 
 -- where a character is left
-pub fetch-moves : (limits : Limits) (c : Choice) (s : State) → Says c s → 1 ≤ left (s .place) → All News (Moves s) (fetch limits c s)
+pub fetch-moves : (limits : Limits) (c : Choice) (s : State) → ChoiceSays c s → 1 ≤ left (s .place) → All News (Moves s) (fetch limits c s)
 unfolding fetch
 fetch-moves limits AtEnd s h i = stream-end-moves s
 fetch-moves limits AtDirective s h i = directive-moves s (h .0)

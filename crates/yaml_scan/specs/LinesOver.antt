@@ -17,7 +17,7 @@ use Rattle.yaml_text.specs.Test.{both-true, by-test, on-pick, true-false}
 use Rattle.yaml_text.specs.All.{All, all-any, all-bind, all-need, all-test, all-weak, holds, not-read}
 use Rattle.yaml_text.specs.DecodeLaws.{NoNul, no-nul-drop}
 use Rattle.yaml_text.specs.MarkLaws.{over-along, over-break}
-use Rattle.yaml_text.specs.PlaceLaws.{Fits, fits-no-nul, fits-refl, fits-trans, skip-break-fit, skip-break-line}
+use Rattle.yaml_text.specs.PlaceLaws.{FurtherOn, fits-no-nul, fits-refl, fits-trans, skip-break-fit, skip-break-line}
 use Rattle.yaml_lexeme.specs.declared.Before.{Before}
 use Rattle.yaml_lexeme.specs.declared.Before.the-variants.{AfterText, InComment, Leading, Spaced, Tabbed}
 use Rattle.yaml_lexeme.specs.declared.Style.{Style}
@@ -107,7 +107,7 @@ gap-forbids flow true b m cs = all-weak (λ g _ e. true-false e) (all-any (skip-
 gap-forbids flow false b m cs = all-weak (λ g h _. h) (gap-calm flow b m cs)
 
 -- behind the end there is nothing
-pub none-further : {p q : Place} → Fits p q → p .rest ≡ [] → q .rest ≡ []
+pub none-further : {p q : Place} → FurtherOn p q → p .rest ≡ [] → q .rest ≡ []
 none-further f e = f .rest-is ∙ rw e (drop-none (f .taken))
   where
     drop-none : (n : ℕ) → drop {A = ℕ} n [] ≡ []
@@ -116,7 +116,7 @@ none-further f e = f .rest-is ∙ rw e (drop-none (f .taken))
 
 -- block scalars: the line is over behind them, or the text is
 
-block-content-fit : (b : Layout) (style : Style) (parent : ℕ) (start : Mark) (g : Margin) → All Lexeme (λ l. Fits (g .place) (l .place)) (block-content b style parent start g)
+block-content-fit : (b : Layout) (style : Style) (parent : ℕ) (start : Mark) (g : Margin) → All Lexeme (λ l. FurtherOn (g .place) (l .place)) (block-content b style parent start g)
 unfolding block-content
 block-content-fit b style parent start g =
     by-test (none-left (g .place .rest))
@@ -132,7 +132,7 @@ the-end [] n z e = refl
 the-end (c ∷ cs) n z e = true-false (sym (rw (e, n .0) at z))
 
 -- e: behind the header, q: behind the scalar
-header-over : {p e q : Place} → Fits p e → is-breakz (look e) ≡ true → Fits (skip-break e) q → NoNul (p .rest)
+header-over : {p e q : Place} → FurtherOn p e → is-breakz (look e) ≡ true → FurtherOn (skip-break e) q → NoNul (p .rest)
     → (p .mark .line < q .mark .line) ⊎ (q .rest ≡ [])
 header-over {e} f z g n =
     by-test (is-break (look e))

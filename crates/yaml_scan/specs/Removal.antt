@@ -26,13 +26,13 @@ use Rattle.yaml_scan.specs.Bracket.{closes-level}
 use Rattle.yaml_scan.specs.Choice.{choice}
 use Rattle.yaml_scan.specs.Fetch.{fetch-next}
 use Rattle.yaml_scan.specs.Scan.{Outcome, after-events, after-step, begin, run, scan, spent, step, to-next-token, unrolled}
-use Rattle.yaml_scan.specs.ChoiceLaws.{Says, choice-says, fetch-news}
+use Rattle.yaml_scan.specs.ChoiceLaws.{ChoiceSays, choice-says, fetch-news}
 use Rattle.yaml_scan.specs.Fetches.{Fetched}
-use Rattle.yaml_scan.specs.Runs.{Reaches, here, then-step}
+use Rattle.yaml_scan.specs.Runs.{StepsReach, here, then-step}
 use Rattle.yaml_scan.specs.Budget.{on-news}
 use Rattle.yaml_scan.specs.Steps.{unrolled-state}
 use Rattle.yaml_scan.specs.Removes.{removes}
-use Rattle.yaml_scan.specs.Required.{Ahead, Between, Keeps, fetch-keeps, flow-none, to-next-token-ahead}
+use Rattle.yaml_scan.specs.Required.{BeforeToken, BetweenSteps, KeepsBetween, fetch-keeps, flow-none, to-next-token-ahead}
 
 -- 01's rule
 unfoldable pub remove-or-refuse : State → Read State
@@ -56,7 +56,7 @@ none-closes sequence s e = by-levels (s .levels) e
     by-levels (l ∷ ls) f = true-false f
 
 -- nor at level 0, above column 0, where no simple key is allowed
-none-removes : (c : Choice) (s : State) → Says c s → in-flow s ≡ false → 0 < mark-of s .col → s .simple-key-allowed ≡ false → removes c s ≡ false
+none-removes : (c : Choice) (s : State) → ChoiceSays c s → in-flow s ≡ false → 0 < mark-of s .col → s .simple-key-allowed ≡ false → removes c s ≡ false
 unfolding removes
 none-removes AtEnd s h e k a = refl
 none-removes AtDirective s h e k a = absurd (omega (arith, h .1))
@@ -76,7 +76,7 @@ none-removes (AtAnchor alias) s h e k a = refl
 none-removes (AtBlock literal) s h e k a = refl
 none-removes (AtQuoted single) s h e k a = refl
 
-pub not-required : (s : State) → Ahead s → removes (choice s) s ≡ true → is-required (top-key (s .keys)) ≡ false
+pub not-required : (s : State) → BeforeToken s → removes (choice s) s ≡ true → is-required (top-key (s .keys)) ≡ false
 unfolding in-flow removes
 not-required s h r =
     by-test (in-flow s)
@@ -88,30 +88,30 @@ not-required s h r =
     by-wait e k (inr z) = true-false (sym r ∙ ap (λ (c : Choice). removes c s) (at-end s z))
 
 -- so 01's rule does not refuse
-pub not-refused : (s : State) → Ahead s → removes (choice s) s ≡ true → remove-or-refuse s ≡ got (remove-key s)
+pub not-refused : (s : State) → BeforeToken s → removes (choice s) s ≡ true → remove-or-refuse s ≡ got (remove-key s)
 unfolding remove-or-refuse need _>>=_
 not-refused s h r = rw (not-required s h r)
 
 -- what a step keeps
 
 abbrev Goes : News → Type 0
-Goes (goes-on es t) = Between t
+Goes (goes-on es t) = BetweenSteps t
 Goes (ends-with es) = Unit {0}
 
-fetch-goes : (limits : Limits) (s : State) → Ahead s → All News Goes (fetch-next limits s)
+fetch-goes : (limits : Limits) (s : State) → BeforeToken s → All News Goes (fetch-next limits s)
 fetch-goes limits s h =
     all-weak by-news (all-both (fetch-keeps limits (choice s) s (choice-says s)) (fetch-news [] limits (choice s) s (choice-says s)))
   where
-    by-news : (w : News) → Keeps s w × Fetched [] s w → Goes w
+    by-news : (w : News) → KeepsBetween s w × Fetched [] s w → Goes w
     by-news (goes-on es t) k = k .0 (k .1 .0) h
     by-news (ends-with es) k = tt
 
 -- the ends of blocks change the indents and the count
-unrolled-ahead : (s : State) → Ahead s → Ahead (unrolled-state s)
+unrolled-ahead : (s : State) → BeforeToken s → BeforeToken (unrolled-state s)
 unfolding in-flow
 unrolled-ahead s h = record { held = h .held; waits = h .waits; no-nul = h .no-nul }
 
-step-goes : (limits : Limits) (s : State) → Between s → All News Goes (step limits s)
+step-goes : (limits : Limits) (s : State) → BetweenSteps s → All News Goes (step limits s)
 unfolding step
 step-goes limits s h =
     all-bind _ (to-next-token-ahead s h)
@@ -121,16 +121,16 @@ step-goes limits s h =
     behind es (goes-on fs t) g = g
     behind es (ends-with fs) g = tt
 
-reached-between : {limits : Limits} {s : State} {es : List Event} {t : State} → Between s → Reaches limits s es t → Between t
+reached-between : {limits : Limits} {s : State} {es : List Event} {t : State} → BetweenSteps s → StepsReach limits s es t → BetweenSteps t
 reached-between h here = h
 reached-between {limits} h (then-step {t = t} r e) = all-got (step-goes limits t (reached-between h r)) e
 
-begin-between : (cs : List ℕ) → NoNul cs → Between (begin cs)
+begin-between : (cs : List ℕ) → NoNul cs → BetweenSteps (begin cs)
 unfolding top-key is-required
 begin-between cs n = record { held = tt; waits = λ _ r. true-false (sym r); no-nul = n }
 
 -- in every state that a run reaches: where the next token removes the candidate, 01's rule does not refuse
-pub never-met : {limits : Limits} {cs : List ℕ} {es : List Event} {s t : State} → NoNul cs → Reaches limits (begin cs) es s → to-next-token s ≡ got t
+pub never-met : {limits : Limits} {cs : List ℕ} {es : List Event} {s t : State} → NoNul cs → StepsReach limits (begin cs) es s → to-next-token s ≡ got t
     → removes (choice (unrolled-state t)) (unrolled-state t) ≡ true → remove-or-refuse (unrolled-state t) ≡ got (remove-key (unrolled-state t))
 never-met {cs = cs} {s = s} {t = t} n r e =
     not-refused (unrolled-state t) (unrolled-ahead t (all-got (to-next-token-ahead s (reached-between (begin-between cs n) r)) e))
@@ -155,7 +155,7 @@ run-asking limits (suc k) s = after-step (step-asking limits s) (λ s'. run-aski
 unfoldable pub scan-asking : Limits → List ℕ → Outcome
 scan-asking limits cs = after-events (put (empty-token StreamStart origin) ∷ []) (run-asking limits (suc (length cs)) (begin cs))
 
-ask-got : {B : Type 0} (s : State) (r : Read B) → Ahead s → (ask s >>= λ _. r) ≡ r
+ask-got : {B : Type 0} (s : State) (r : Read B) → BeforeToken s → (ask s >>= λ _. r) ≡ r
 unfolding ask _>>=_
 ask-got s r h = by-test (removes (choice s) s) (λ e. rw (e, not-refused s h e)) (λ e. rw e)
 
@@ -165,11 +165,11 @@ unfolding _>>=_
 bind-same f g (holds {a = x} h) k = k x h
 bind-same f g not-read k = refl
 
-step-same : (limits : Limits) (s : State) → Between s → step-asking limits s ≡ step limits s
+step-same : (limits : Limits) (s : State) → BetweenSteps s → step-asking limits s ≡ step limits s
 unfolding step-asking step
 step-same limits s h = bind-same _ _ (to-next-token-ahead s h) (λ t a. ask-got (unrolled-state t) _ (unrolled-ahead t a))
 
-run-same : (limits : Limits) (k : ℕ) (s : State) → Between s → run-asking limits k s ≡ run limits k s
+run-same : (limits : Limits) (k : ℕ) (s : State) → BetweenSteps s → run-asking limits k s ≡ run limits k s
 unfolding run-asking run
 run-same limits zero s h = refl
 run-same limits (suc k) s h =

@@ -15,7 +15,7 @@ use Rattle.yaml_text.specs.Refusal.{got}
 use Rattle.yaml_text.specs.Test.{by-test, on-pick, true-false}
 use Rattle.yaml_text.specs.All.{All, all-any, all-bind, all-both, all-need, all-test, holds, not-read}
 use Rattle.yaml_text.specs.DecodeLaws.{NoNul, no-nul-drop}
-use Rattle.yaml_text.specs.PlaceLaws.{Fits, fits-no-nul}
+use Rattle.yaml_text.specs.PlaceLaws.{FurtherOn, fits-no-nul}
 use Rattle.yaml_lexeme.specs.Token.{FlowEntry}
 use Rattle.yaml_lexeme.specs.Fits.{flow-scalar-fit, plain-fit, skip-gap-fit}
 use Rattle.yaml_lexeme.specs.BlockFits.{block-scalar-fit}
@@ -37,29 +37,29 @@ use Rattle.yaml_scan.specs.Fetch.{fetch, fetch-anchor, fetch-block-scala
 use Rattle.yaml_scan.specs.Scan.{to-next-token}
 use Rattle.yaml_scan.specs.Candidates.{Over}
 use Rattle.yaml_scan.specs.Fetches.{behind-first, bracket-fit, save-key-place, stack-bracket-is}
-use Rattle.yaml_scan.specs.ChoiceLaws.{Says}
+use Rattle.yaml_scan.specs.ChoiceLaws.{ChoiceSays}
 use Rattle.yaml_scan.specs.LinesOver.{block-scalar-over, gap-forbids, none-further}
 use Rattle.yaml_scan.specs.Runs.{lapsed, still-over}
 
 -- the candidate stands before the mark
-abbrev pub Passed : Mark → Candidate → Type 0
-Passed m Absent = Unit {0}
-Passed m (Possible required n k) = (k .line ≤ m .line) × (m .line ≡ k .line → k .col < m .col)
+abbrev pub KeyPassed : Mark → Candidate → Type 0
+KeyPassed m Absent = Unit {0}
+KeyPassed m (Possible required n k) = (k .line ≤ m .line) × (m .line ≡ k .line → k .col < m .col)
 
 -- in flow no candidate is required, and that of level 0 stands before the mark
 abbrev pub Held : Mark → List Candidate → List Level → Type 0
 Held m [] ls = Unit {0}
-Held m (k ∷ ks) [] = Passed m k
+Held m (k ∷ ks) [] = KeyPassed m k
 Held m (k ∷ ks) (l ∷ ls) = (is-required k ≡ false) × Held m ks ls
 
 -- before a token, behind the lapse
-pub record Ahead (s : State) : Type 0 where
+pub record BeforeToken (s : State) : Type 0 where
   pub held : Held (mark-of s) (s .keys) (s .levels)
   pub waits : in-flow s ≡ false → is-required (top-key (s .keys)) ≡ true → (0 < mark-of s .col) × ((s .simple-key-allowed ≡ false) ⊎ (rest-of s ≡ []))
   pub no-nul : NoNul (rest-of s)
 
 -- between two steps
-pub record Between (s : State) : Type 0 where
+pub record BetweenSteps (s : State) : Type 0 where
   pub held : Held (mark-of s) (s .keys) (s .levels)
   pub waits : in-flow s ≡ false → is-required (top-key (s .keys)) ≡ true → Over (mark-of s) (top-key (s .keys)) ⊎ ((s .simple-key-allowed ≡ false) ⊎ (rest-of s ≡ []))
   pub no-nul : NoNul (rest-of s)
@@ -69,10 +69,10 @@ pub record Between (s : State) : Type 0 where
 abbrev Later : Mark → Mark → Type 0
 Later m m' = (m .line ≤ m' .line) × (m' .line ≡ m .line → m .col ≤ m' .col)
 
-later : {p q : Place} → Fits p q → Later (p .mark) (q .mark)
+later : {p q : Place} → FurtherOn p q → Later (p .mark) (q .mark)
 later f = (f .line-on, f .col-on)
 
-passed-on : (m m' : Mark) (k : Candidate) → Later m m' → Passed m k → Passed m' k
+passed-on : (m m' : Mark) (k : Candidate) → Later m m' → KeyPassed m k → KeyPassed m' k
 passed-on m m' Absent f h = tt
 passed-on m m' (Possible required n k) f h =
     (omega (arith, f .0, h .0), λ e. omega (arith, h .1 (omega (arith, f .0, h .0)), f .1 (omega (arith, f .0, h .0))))
@@ -110,7 +110,7 @@ abbrev inside : List Level → Bool
 inside ls = elim ls [ [] ↦ false | l ∷ ls ↦ true ]
 
 -- at level 0
-zero-passed : (m : Mark) (ks : List Candidate) (ls : List Level) → inside ls ≡ false → Held m ks ls → Passed m (top-key ks)
+zero-passed : (m : Mark) (ks : List Candidate) (ls : List Level) → inside ls ≡ false → Held m ks ls → KeyPassed m (top-key ks)
 unfolding top-key
 zero-passed m [] ls e h = tt
 zero-passed m (k ∷ ks) [] e h = h
@@ -124,12 +124,12 @@ flow-none m (k ∷ ks) [] e h = true-false (sym e)
 flow-none m (k ∷ ks) (l ∷ ls) e h = h .0
 
 -- a candidate that stands before the mark, on a later line
-line-over : (m m' : Mark) (k : Candidate) → m .line < m' .line → Passed m k → Over m' k
+line-over : (m m' : Mark) (k : Candidate) → m .line < m' .line → KeyPassed m k → Over m' k
 line-over m m' Absent f h = tt
 line-over m m' (Possible required n k) f h = omega (arith, h .0)
 
 -- one whose line is not over: the column is above 0
-above-zero : (m : Mark) (k : Candidate) → is-required k ≡ true → Passed m k → (Over m k → ⊥) → 0 < m .col
+above-zero : (m : Mark) (k : Candidate) → is-required k ≡ true → KeyPassed m k → (Over m k → ⊥) → 0 < m .col
 unfolding is-required
 above-zero m Absent r h o = true-false (sym r)
 above-zero m (Possible required n k) r h o =
@@ -139,7 +139,7 @@ above-zero m (Possible required n k) r h o =
 
 -- the gap and the lapse
 
-module _ (s : State) (h : Between s) (p : Place) (leads a : Bool) (f : Fits (s .place) p)
+module _ (s : State) (h : BetweenSteps s) (p : Place) (leads a : Bool) (f : FurtherOn (s .place) p)
     (forbids : s .simple-key-allowed ≡ false → (a ≡ false) ⊎ (mark-of s .line < p .mark .line)) where
   -- the candidate that is left
   waits-on : in-flow s ≡ false → (Over (p .mark) (top-key (s .keys)) → ⊥) → is-required (top-key (s .keys)) ≡ true
@@ -149,17 +149,17 @@ module _ (s : State) (h : Between s) (p : Place) (leads a : Bool) (f : Fits (s .
       let k = zero-passed (mark-of s) (s .keys) (s .levels) e (h .held) in
       (above-zero (p .mark) (top-key (s .keys)) r (passed-on _ _ (top-key (s .keys)) (later f) k) o, by-wait k (h .waits e r))
     where
-      by-line : Passed (mark-of s) (top-key (s .keys)) → (a ≡ false) ⊎ (mark-of s .line < p .mark .line) → (a ≡ false) ⊎ (p .rest ≡ [])
+      by-line : KeyPassed (mark-of s) (top-key (s .keys)) → (a ≡ false) ⊎ (mark-of s .line < p .mark .line) → (a ≡ false) ⊎ (p .rest ≡ [])
       by-line k (inl z) = inl z
       by-line k (inr z) = absurd (o (line-over (mark-of s) (p .mark) (top-key (s .keys)) z k))
 
-      by-wait : Passed (mark-of s) (top-key (s .keys)) → Over (mark-of s) (top-key (s .keys)) ⊎ ((s .simple-key-allowed ≡ false) ⊎ (rest-of s ≡ []))
+      by-wait : KeyPassed (mark-of s) (top-key (s .keys)) → Over (mark-of s) (top-key (s .keys)) ⊎ ((s .simple-key-allowed ≡ false) ⊎ (rest-of s ≡ []))
           → (a ≡ false) ⊎ (p .rest ≡ [])
       by-wait k (inl z) = absurd (o (still-over (mark-of s) (p .mark) (top-key (s .keys)) (f .line-on) z))
       by-wait k (inr (inl z)) = by-line k (forbids z)
       by-wait k (inr (inr z)) = inr (none-further f z)
 
-  lapse-ahead : All State Ahead (lapse-key (at-place p leads (allow a s)))
+  lapse-ahead : All State BeforeToken (lapse-key (at-place p leads (allow a s)))
   unfolding lapse-key in-flow top-key is-required
   lapse-ahead =
       by-test (in-flow s)
@@ -170,13 +170,13 @@ module _ (s : State) (h : Between s) (p : Place) (leads a : Bool) (f : Fits (s .
       on = held-on (mark-of s) (p .mark) (s .keys) (s .levels) (later f) (h .held)
 
       by-lapse : in-flow s ≡ false → (c : Candidate) → (c ≡ Absent) ⊎ ((c ≡ top-key (s .keys)) × (Over (p .mark) (top-key (s .keys)) → ⊥))
-          → Ahead (with-keys (set-key c (s .keys)) (at-place p leads (allow a s)))
+          → BeforeToken (with-keys (set-key c (s .keys)) (at-place p leads (allow a s)))
       by-lapse e c (inl k) =
           rw k (record { held = held-without (p .mark) (s .keys) (s .levels) on; waits = λ _ r. true-false (sym r); no-nul = fits-no-nul f (h .no-nul) })
       by-lapse e c (inr k) =
           rw (k .0) (record { held = held-top (p .mark) (s .keys) (s .levels) on; waits = λ _ r. waits-on e (k .1) r; no-nul = fits-no-nul f (h .no-nul) })
 
-pub to-next-token-ahead : (s : State) → Between s → All State Ahead (to-next-token s)
+pub to-next-token-ahead : (s : State) → BetweenSteps s → All State BeforeToken (to-next-token s)
 unfolding to-next-token
 to-next-token-ahead s h =
     all-bind _ (all-both (skip-gap-fit _ _ _ (mark-of s) (rest-of s)) (gap-forbids _ (s .simple-key-allowed) _ (mark-of s) (rest-of s)))
@@ -184,20 +184,20 @@ to-next-token-ahead s h =
 
 -- what each fetch keeps
 
-abbrev pub Keeps : State → News → Type 0
-Keeps s (goes-on es t) = Fits (behind-first (s .place)) (t .place) → Ahead s → Between t
-Keeps s (ends-with es) = Unit {0}
+abbrev pub KeepsBetween : State → News → Type 0
+KeepsBetween s (goes-on es t) = FurtherOn (behind-first (s .place)) (t .place) → BeforeToken s → BetweenSteps t
+KeepsBetween s (ends-with es) = Unit {0}
 
-kept : {s : State} {es : List Event} {t : State} → (Fits (behind-first (s .place)) (t .place) → Ahead s → Between t) → All News (Keeps s) (got (goes-on es t))
-kept {s} {es} {t} h = let k : Keeps s (goes-on es t) = h in holds k
+kept : {s : State} {es : List Event} {t : State} → (FurtherOn (behind-first (s .place)) (t .place) → BeforeToken s → BetweenSteps t) → All News (KeepsBetween s) (got (goes-on es t))
+kept {s} {es} {t} h = let k : KeepsBetween s (goes-on es t) = h in holds k
 
 -- behind the first character
-no-nul-behind : (p : Place) {q : Place} → Fits (behind-first p) q → NoNul (p .rest) → NoNul (q .rest)
+no-nul-behind : (p : Place) {q : Place} → FurtherOn (behind-first p) q → NoNul (p .rest) → NoNul (q .rest)
 no-nul-behind p f n = fits-no-nul f (no-nul-drop 1 (p .rest) n)
 
 -- the candidate goes
 gone-by : {s : State} {es : List Event} {t : State} → t .keys ≡ set-key Absent (s .keys)
-    → ((m : Mark) → Held m (set-key Absent (s .keys)) (s .levels) → Held m (set-key Absent (s .keys)) (t .levels)) → All News (Keeps s) (got (goes-on es t))
+    → ((m : Mark) → Held m (set-key Absent (s .keys)) (s .levels) → Held m (set-key Absent (s .keys)) (t .levels)) → All News (KeepsBetween s) (got (goes-on es t))
 unfolding top-key is-required
 gone-by {s} {t = t} k l =
     kept (λ f h. record {
@@ -206,16 +206,16 @@ gone-by {s} {t = t} k l =
       no-nul = no-nul-behind (s .place) f (h .no-nul);
     })
 
-gone : {s : State} {es : List Event} {t : State} → t .keys ≡ set-key Absent (s .keys) → t .levels ≡ s .levels → All News (Keeps s) (got (goes-on es t))
+gone : {s : State} {es : List Event} {t : State} → t .keys ≡ set-key Absent (s .keys) → t .levels ≡ s .levels → All News (KeepsBetween s) (got (goes-on es t))
 gone k l = gone-by k (λ m h. rw l h)
 
 -- and its level is changed
 gone-in : {s : State} {es : List Event} {t : State} (g : Level → Level) → t .keys ≡ set-key Absent (s .keys) → t .levels ≡ on-level g (s .levels)
-    → All News (Keeps s) (got (goes-on es t))
+    → All News (KeepsBetween s) (got (goes-on es t))
 gone-in {s} g k l = gone-by k (λ m h. rw l (held-level m g (set-key Absent (s .keys)) (s .levels) h))
 
 -- a candidate is saved: in flow it is not required
-saved-held : (s : State) (q : Place) → Fits (skip-by 1 (s .place)) q → Held (mark-of s) (s .keys) (s .levels) → Held (q .mark) (save-key s .keys) (save-key s .levels)
+saved-held : (s : State) (q : Place) → FurtherOn (skip-by 1 (s .place)) q → Held (mark-of s) (s .keys) (s .levels) → Held (q .mark) (save-key s .keys) (save-key s .levels)
 unfolding save-key in-flow is-required
 saved-held s q f h =
     on-pick (λ (u : State). Held (q .mark) (u .keys) (u .levels)) (s .simple-key-allowed) (λ _. by-level _ _ (s .levels) on) (λ _. on)
@@ -229,8 +229,8 @@ saved-held s q f h =
     by-level a b (l ∷ ls) k = (refl, held-drop (q .mark) (s .keys) l ls k)
 
 -- no other is allowed behind it
-saves : {s : State} {es : List Event} {t : State} → Fits (skip-by 1 (s .place)) (t .place) → t .keys ≡ save-key s .keys → t .levels ≡ save-key s .levels → t .simple-key-allowed ≡ false
-    → All News (Keeps s) (got (goes-on es t))
+saves : {s : State} {es : List Event} {t : State} → FurtherOn (skip-by 1 (s .place)) (t .place) → t .keys ≡ save-key s .keys → t .levels ≡ save-key s .levels → t .simple-key-allowed ≡ false
+    → All News (KeepsBetween s) (got (goes-on es t))
 saves {s} {t = t} g k l a =
     kept (λ f h. record { held = rw (k, l) (saved-held s (t .place) g (h .held)); waits = λ _ _. inr (inl a); no-nul = no-nul-behind (s .place) f (h .no-nul) })
 
@@ -240,7 +240,7 @@ unfolding save-key in-flow top-key
 saved-over s m e h o =
     on-pick (λ (u : State). Over m (top-key (u .keys))) (s .simple-key-allowed) (λ _. o) (λ _. line-over (mark-of s) m (top-key (s .keys)) o (zero-passed (mark-of s) (s .keys) (s .levels) e h))
 
-block-keeps : (literal : Bool) (s : State) → in-flow s ≡ false → All News (Keeps s) (fetch-block-scalar literal s)
+block-keeps : (literal : Bool) (s : State) → in-flow s ≡ false → All News (KeepsBetween s) (fetch-block-scalar literal s)
 unfolding fetch-block-scalar
 block-keeps literal s e =
     let i = drop-non-ending (s .indents .indent) (s .indents .entries) in
@@ -257,7 +257,7 @@ block-keeps literal s e =
 
 -- brackets
 
-opens-keeps : (limits : Limits) (sequence : Bool) (s : State) → All News (Keeps s) (fetch-flow-collection-start limits sequence s)
+opens-keeps : (limits : Limits) (sequence : Bool) (s : State) → All News (KeepsBetween s) (fetch-flow-collection-start limits sequence s)
 unfolding fetch-flow-collection-start in-flow is-required
 opens-keeps limits sequence s =
     all-bind _ (stack-bracket-is limits (save-key s))
@@ -268,7 +268,7 @@ opens-keeps limits sequence s =
       no-nul = no-nul-behind (s .place) f (h .no-nul);
     })))))
 
-closes-keeps : (sequence : Bool) (s : State) → All News (Keeps s) (fetch-flow-collection-end sequence s)
+closes-keeps : (sequence : Bool) (s : State) → All News (KeepsBetween s) (fetch-flow-collection-end sequence s)
 unfolding fetch-flow-collection-end remove-key closes-level
 closes-keeps sequence s =
     all-test _ 47 (mark-of s) _ (λ c. all-bind _ (bracket-fit _ (s .place))
@@ -282,13 +282,13 @@ closes-keeps sequence s =
     outward m [] c h = true-false (sym c)
     outward m (l ∷ ls) c h = held-drop m (s .keys) l ls h
 
-value-by-keeps : (limits : Limits) (k : Candidate) (s : State) → All News (Keeps s) (value-by limits k s)
+value-by-keeps : (limits : Limits) (k : Candidate) (s : State) → All News (KeepsBetween s) (value-by limits k s)
 unfolding value-by value-with value-without
 value-by-keeps limits Absent s =
     all-need _ 46 (mark-of s) _ (all-bind _ (all-any (roll-state limits (mark-of s) s)) (λ r _. gone-in _ refl refl))
 value-by-keeps limits (Possible required n k) s = all-bind _ (all-any (roll-state limits k s)) (λ r _. gone-in _ refl refl)
 
-pub fetch-keeps : (limits : Limits) (c : Choice) (s : State) → Says c s → All News (Keeps s) (fetch limits c s)
+pub fetch-keeps : (limits : Limits) (c : Choice) (s : State) → ChoiceSays c s → All News (KeepsBetween s) (fetch limits c s)
 unfolding fetch fetch-directive fetch-byte-order-mark fetch-document-indicator fetch-stream-end fetch-flow-entry fetch-block-entry fetch-key fetch-tag fetch-plain-scalar
     fetch-anchor fetch-flow-scalar leave-blocks remove-key
 fetch-keeps limits AtEnd s h = all-need _ 47 (mark-of s) _ (all-need _ 41 (forced (mark-of s)) _ (holds tt))

@@ -14,7 +14,7 @@ use Rattle.yaml_text.specs.Mark.{Place, look, origin}
 use Rattle.yaml_text.specs.Refusal.{got}
 use Rattle.yaml_text.specs.Test.{by-test, true-false}
 use Rattle.yaml_text.specs.All.{All, all-bind, all-got, all-need, all-weak, holds}
-use Rattle.yaml_text.specs.PlaceLaws.{Fits, fits-left, fits-no-nul, fits-refl, fits-trans, left}
+use Rattle.yaml_text.specs.PlaceLaws.{FurtherOn, fits-left, fits-no-nul, fits-refl, fits-trans, left}
 use Rattle.yaml_lexeme.specs.Fits.{skip-gap-fit}
 use Rattle.yaml_scan.specs.declared.Candidate.{Candidate}
 use Rattle.yaml_scan.specs.declared.Candidate.the-variants.{Absent, Possible}
@@ -26,13 +26,13 @@ use Rattle.yaml_scan.specs.State.{Event, News, State, allow, at-place, b
 use Rattle.yaml_scan.specs.Choice.{choice}
 use Rattle.yaml_scan.specs.Fetch.{fetch, fetch-next}
 use Rattle.yaml_scan.specs.Scan.{begin, step, to-next-token, unrolled}
-use Rattle.yaml_scan.specs.Candidates.{Given, Over, Placed, Ready, ReadyState, Sound, fall-less, fresh, given, given-append, given-length, late, only-ends, only-placed, placed-append, ready, same-ready, stays-known, without-ready}
+use Rattle.yaml_scan.specs.Candidates.{GivenToken, Over, Placed, Ready, ReadyState, Sound, fall-less, fresh, given, given-append, given-length, late, only-ends, only-placed, placed-append, ready, same-ready, stays-known, without-ready}
 use Rattle.yaml_scan.specs.Fetches.{Fetched, behind-first, stream-end-news}
 use Rattle.yaml_scan.specs.ChoiceLaws.{choice-says, fetch-news}
 
 -- the gap and the lapse
 
-move-ready : {gs : List Given} {n : ℕ} {ks : List Candidate} {ls : List Level} {p q : Place} → Fits p q → Ready gs n ks ls p → Ready gs n ks ls q
+move-ready : {gs : List GivenToken} {n : ℕ} {ks : List Candidate} {ls : List Level} {p q : Place} → FurtherOn p q → Ready gs n ks ls p → Ready gs n ks ls q
 move-ready f r = record { counted = r .counted; levelled = r .levelled; known = r .known; ordered = r .ordered; no-nul = fits-no-nul f (r .no-nul) }
 
 pub still-over : (m m' : Mark) (k : Candidate) → m .line ≤ m' .line → Over m k → Over m' k
@@ -40,7 +40,7 @@ still-over m m' Absent h o = tt
 still-over m m' (Possible required n k) h o = omega arith
 
 -- over a gap the state stays sound
-over-gap : {gs : List Given} (s : State) (p : Place) (leads a : Bool) → Fits (s .place) p → Sound gs s → Sound gs (at-place p leads (allow a s))
+over-gap : {gs : List GivenToken} (s : State) (p : Place) (leads a : Bool) → FurtherOn (s .place) p → Sound gs s → Sound gs (at-place p leads (allow a s))
 unfolding in-flow
 over-gap s p leads a f (ready r) = ready (move-ready f r)
 over-gap s p leads a f (late e o r) = late e (still-over (mark-of s) (p .mark) (top-key (s .keys)) (f .line-on) o) (move-ready f r)
@@ -54,7 +54,7 @@ lapsed m (Possible required n k) =
     (λ e. rw (e, lapse) (all-need _ 41 m _ (holds (inl refl))))
     (λ e. rw (e, lapse) (holds (inr (refl, λ o. true-false (rw (lt-ltb (k .line) (m .line) o) at e)))))
 
-lapse-key-ready : (gs : List Given) (s : State) → All State (λ t. (t .place ≡ s .place) × (Sound gs s → ReadyState gs t)) (lapse-key s)
+lapse-key-ready : (gs : List GivenToken) (s : State) → All State (λ t. (t .place ≡ s .place) × (Sound gs s → ReadyState gs t)) (lapse-key s)
 unfolding lapse-key
 lapse-key-ready gs s =
     by-test (in-flow s)
@@ -72,7 +72,7 @@ lapse-key-ready gs s =
     outside c (inr h) (ready r) = rw (h .0) (same-ready (s .keys) r)
     outside c (inr h) (late f o r) = absurd (h .1 o)
 
-to-next-token-ready : (gs : List Given) (s : State) → All State (λ t. Fits (s .place) (t .place) × (Sound gs s → ReadyState gs t)) (to-next-token s)
+to-next-token-ready : (gs : List GivenToken) (s : State) → All State (λ t. FurtherOn (s .place) (t .place) × (Sound gs s → ReadyState gs t)) (to-next-token s)
 unfolding to-next-token
 to-next-token-ready gs s =
     all-bind _ (skip-gap-fit _ _ _ (mark-of s) (rest-of s))
@@ -81,14 +81,14 @@ to-next-token-ready gs s =
 -- one token
 
 -- it takes a character, or ends the run
-abbrev pub Next : List Given → State → News → Type 0
-Next gs s (goes-on es t) = (left (t .place) < left (s .place)) × Fits (s .place) (t .place) × (ReadyState gs s → Placed gs es × Sound (given gs es) t)
-Next gs s (ends-with es) = ReadyState gs s → Placed gs es
+abbrev pub TakesOrEnds : List GivenToken → State → News → Type 0
+TakesOrEnds gs s (goes-on es t) = (left (t .place) < left (s .place)) × FurtherOn (s .place) (t .place) × (ReadyState gs s → Placed gs es × Sound (given gs es) t)
+TakesOrEnds gs s (ends-with es) = ReadyState gs s → Placed gs es
 
-takes-one : (p : Place) → 1 ≤ left p → Fits p (behind-first p)
+takes-one : (p : Place) → 1 ≤ left p → FurtherOn p (behind-first p)
 takes-one p h = record { taken = 1; within = h; rest-is = refl; index-is = refl; line-on = le-refl _; col-on = λ _. le-refl _ }
 
-takes-first : (gs : List Given) (s : State) → 1 ≤ left (s .place) → (w : News) → Fetched gs s w → Next gs s w
+takes-first : (gs : List GivenToken) (s : State) → 1 ≤ left (s .place) → (w : News) → Fetched gs s w → TakesOrEnds gs s w
 takes-first gs s h (goes-on es t) f =
     let g = takes-one (s .place) h in
     (omega (arith, fits-left (f .0), fits-left g), fits-trans g (f .0), f .1)
@@ -100,7 +100,7 @@ unfolding is-z
 some-left [] e = true-false e
 some-left (c ∷ cs) e = omega arith
 
-pub next-news : (gs : List Given) (limits : Limits) (s : State) → All News (Next gs s) (fetch-next limits s)
+pub next-news : (gs : List GivenToken) (limits : Limits) (s : State) → All News (TakesOrEnds gs s) (fetch-next limits s)
 unfolding choice fetch
 next-news gs limits s =
     by-test (is-z (look (s .place)))
@@ -110,13 +110,13 @@ next-news gs limits s =
 -- a step
 
 -- from the state s, after the tokens gs, on to the state t
-pub record Goes (gs : List Given) (s : State) (es : List Event) (t : State) : Type 0 where
+pub record GoesTo (gs : List GivenToken) (s : State) (es : List Event) (t : State) : Type 0 where
   pub takes : left (t .place) < left (s .place)
-  pub onward : Fits (s .place) (t .place)
+  pub onward : FurtherOn (s .place) (t .place)
   pub sound : Sound gs s → Placed gs es × Sound (given gs es) t
 
-abbrev pub Stepped : List Given → State → News → Type 0
-Stepped gs s (goes-on es t) = Goes gs s es t
+abbrev pub Stepped : List GivenToken → State → News → Type 0
+Stepped gs s (goes-on es t) = GoesTo gs s es t
 Stepped gs s (ends-with es) = Sound gs s → Placed gs es
 
 pub puts-ends : (n : ℕ) (m : Mark) → puts (block-ends n m) ≡ n
@@ -125,7 +125,7 @@ puts-ends zero m = refl
 puts-ends (suc n) m = ap suc (puts-ends n m)
 
 -- behind the ends of blocks
-ends-ready : {gs : List Given} {c : ℕ} {ks : List Candidate} {ls : List Level} {p : Place} (n : ℕ) (m : Mark) → Ready gs c ks ls p → Ready (given gs (block-ends n m)) (c + n) ks ls p
+ends-ready : {gs : List GivenToken} {c : ℕ} {ks : List Candidate} {ls : List Level} {p : Place} (n : ℕ) (m : Mark) → Ready gs c ks ls p → Ready (given gs (block-ends n m)) (c + n) ks ls p
 ends-ready {gs} {c} {ks} n m r =
     let e = given-length gs (block-ends n m) in
     let f = puts-ends n m in
@@ -138,8 +138,8 @@ ends-ready {gs} {c} {ks} n m r =
     }
 
 -- a gap, the ends of blocks, and one token
-stepped : (gs : List Given) (s t : State) (n : ℕ) (i : Indents) → Fits (s .place) (t .place) → (Sound gs s → ReadyState gs t) → (w : News)
-    → Next (given gs (block-ends n (mark-of t))) (counting n (with-indents i t)) w → Stepped gs s (preceded (block-ends n (mark-of t)) w)
+stepped : (gs : List GivenToken) (s t : State) (n : ℕ) (i : Indents) → FurtherOn (s .place) (t .place) → (Sound gs s → ReadyState gs t) → (w : News)
+    → TakesOrEnds (given gs (block-ends n (mark-of t))) (counting n (with-indents i t)) w → Stepped gs s (preceded (block-ends n (mark-of t)) w)
 stepped gs s t n i f r (goes-on es u) h =
     let bs = block-ends n (mark-of t) in
     record {
@@ -150,7 +150,7 @@ stepped gs s t n i f r (goes-on es u) h =
 stepped gs s t n i f r (ends-with es) h =
     λ k. placed-append gs (block-ends n (mark-of t)) es (only-placed gs _ (only-ends n (mark-of t))) (h (ends-ready n (mark-of t) (r k)))
 
-pub step-news : (gs : List Given) (limits : Limits) (s : State) → All News (Stepped gs s) (step limits s)
+pub step-news : (gs : List GivenToken) (limits : Limits) (s : State) → All News (Stepped gs s) (step limits s)
 unfolding step
 step-news gs limits s =
     all-bind _ (to-next-token-ready gs s)
@@ -160,17 +160,17 @@ step-news gs limits s =
 -- a run
 
 -- t is a state that the steps from s come to, es what they say
-pub data Reaches (limits : Limits) (s : State) : List Event → State → Type 0 where
-  here : Reaches limits s [] s
-  then-step : {es fs : List Event} {t u : State} → Reaches limits s es t → step limits t ≡ got (goes-on fs u) → Reaches limits s (es ++ fs) u
+pub data StepsReach (limits : Limits) (s : State) : List Event → State → Type 0 where
+  here : StepsReach limits s [] s
+  then-step : {es fs : List Event} {t u : State} → StepsReach limits s es t → step limits t ≡ got (goes-on fs u) → StepsReach limits s (es ++ fs) u
 
-pub record Reached (gs : List Given) (s : State) (es : List Event) (t : State) : Type 0 where
-  pub onward : Fits (s .place) (t .place)
+pub record Reached (gs : List GivenToken) (s : State) (es : List Event) (t : State) : Type 0 where
+  pub onward : FurtherOn (s .place) (t .place)
   pub placed : Placed gs es
   pub sound : Sound (given gs es) t
 
 -- in every state that a run reaches the candidates are known or late, the place is further on in the text, and what was said is placed
-pub reached : {limits : Limits} {s : State} {es : List Event} {t : State} (gs : List Given) → Sound gs s → Reaches limits s es t → Reached gs s es t
+pub reached : {limits : Limits} {s : State} {es : List Event} {t : State} (gs : List GivenToken) → Sound gs s → StepsReach limits s es t → Reached gs s es t
 unfolding given Placed
 reached gs h here = record { onward = fits-refl _; placed = tt; sound = h }
 reached {limits} gs h (then-step {es = es} {fs = fs} {t = t} r e) =
@@ -180,7 +180,7 @@ reached {limits} gs h (then-step {es = es} {fs = fs} {t = t} r e) =
     record { onward = fits-trans (k .onward) (n .onward); placed = placed-append gs es fs (k .placed) (j .0); sound = rw (given-append gs es fs) (j .1) }
 
 -- in a text from its first character on, a place has as many characters behind it as its index says
-pub reached-place : {limits : Limits} {es : List Event} {t : State} (cs : List ℕ) → Sound (fresh origin ∷ []) (begin cs) → Reaches limits (begin cs) es t
+pub reached-place : {limits : Limits} {es : List Event} {t : State} (cs : List ℕ) → Sound (fresh origin ∷ []) (begin cs) → StepsReach limits (begin cs) es t
     → (t .place .rest ≡ drop (t .place .mark .index) cs) × (t .place .mark .index ≤ length cs)
 reached-place {t} cs h r =
     let f = reached (fresh origin ∷ []) h r .onward in

@@ -13,7 +13,7 @@ use Rattle.yaml_scan.specs.declared.Limits.{Limits}
 use Rattle.yaml_scan.specs.State.{Event, put, put-before, puts}
 use Rattle.yaml_scan.specs.Slots.{Slot, flat, note, slot, slots, tokens-of}
 use Rattle.yaml_scan.specs.Scan.{outcome, scanned}
-use Rattle.yaml_scan.specs.Candidates.{Free, Given, Placed, fresh, note-at}
+use Rattle.yaml_scan.specs.Candidates.{Free, GivenToken, Placed, fresh, note-at}
 use Rattle.yaml_scan.specs.Budget.{outcome-placed}
 
 -- one list behind another
@@ -32,11 +32,11 @@ slots-append xs (put-before n ts ∷ es) fs = slots-append (note n ts xs) es fs
 -- the slots hold the tokens that were given, and each is noted at most once (Candidates): so the tokens are as many as the events say
 
 -- the slots of the tokens gs: each token starts where it says, and nothing is noted where none was put in
-abbrev pub Holds : List Given → List Slot → Type 0
-Holds [] [] = Unit {0}
-Holds [] (x ∷ xs) = ⊥
-Holds (g ∷ gs) [] = ⊥
-Holds (g ∷ gs) (x ∷ xs) = (x .token .start ≡ g .start) × (g .noted ≡ false → x .before ≡ []) × Holds gs xs
+abbrev pub SlotsHold : List GivenToken → List Slot → Type 0
+SlotsHold [] [] = Unit {0}
+SlotsHold [] (x ∷ xs) = ⊥
+SlotsHold (g ∷ gs) [] = ⊥
+SlotsHold (g ∷ gs) (x ∷ xs) = (x .token .start ≡ g .start) × (g .noted ≡ false → x .before ≡ []) × SlotsHold gs xs
 
 pub note-length : (n : ℕ) (ts : List Token) (xs : List Slot) → length (note n ts xs) ≡ length xs
 unfolding note
@@ -50,13 +50,13 @@ slots-length xs [] = omega arith
 slots-length xs (put t ∷ es) = omega (arith, slots-length (xs ++ (slot t [] ∷ [])) es, length-append xs (slot t [] ∷ []))
 slots-length xs (put-before n ts ∷ es) = omega (arith, slots-length (note n ts xs) es, note-length n ts xs)
 
-pub holds-more : (gs : List Given) (xs : List Slot) (t : Token) → Holds gs xs → Holds (gs ++ (fresh (t .start) ∷ [])) (xs ++ (slot t [] ∷ []))
+pub holds-more : (gs : List GivenToken) (xs : List Slot) (t : Token) → SlotsHold gs xs → SlotsHold (gs ++ (fresh (t .start) ∷ [])) (xs ++ (slot t [] ∷ []))
 holds-more [] [] t h = (refl, λ _. refl, tt)
 holds-more [] (x ∷ xs) t h = absurd h
 holds-more (g ∷ gs) [] t h = absurd h
 holds-more (g ∷ gs) (x ∷ xs) t h = (h .0, h .1, holds-more gs xs t (h .2))
 
-pub holds-noted : (gs : List Given) (xs : List Slot) (n : ℕ) (ts : List Token) → Holds gs xs → Holds (note-at n gs) (note n ts xs)
+pub holds-noted : (gs : List GivenToken) (xs : List Slot) (n : ℕ) (ts : List Token) → SlotsHold gs xs → SlotsHold (note-at n gs) (note n ts xs)
 unfolding note
 holds-noted [] [] n ts h = tt
 holds-noted [] (x ∷ xs) n ts h = absurd h
@@ -79,14 +79,14 @@ flat-more (x ∷ xs) t =
     let g = flat-more xs t in
     omega arith
 
-flat-noted : (gs : List Given) (xs : List Slot) (n : ℕ) (m : Mark) (ts : List Token) → Holds gs xs → Free gs n m → length (flat (note n ts xs)) ≡ length (flat xs) + length ts
+flat-noted : (gs : List GivenToken) (xs : List Slot) (n : ℕ) (m : Mark) (ts : List Token) → SlotsHold gs xs → Free gs n m → length (flat (note n ts xs)) ≡ length (flat xs) + length ts
 unfolding flat note
 flat-noted [] [] n m ts h f = let k = f .0 in absurd (omega arith)
 flat-noted [] (x ∷ xs) n m ts h f = absurd h
 flat-noted (g ∷ gs) [] n m ts h f = absurd h
 flat-noted (g ∷ gs) (x ∷ xs) zero m ts h f =
     let e = length-append ts (x .token ∷ flat xs) in
-    rw (h .1 (ap (λ (g' : Given). g' .noted) (f .1))) (omega arith)
+    rw (h .1 (ap (λ (g' : GivenToken). g' .noted) (f .1))) (omega arith)
 flat-noted (g ∷ gs) (x ∷ xs) (suc n) m ts h f =
     let e = length-append (x .before) (x .token ∷ flat xs) in
     let i = length-append (x .before) (x .token ∷ flat (note n ts xs)) in
@@ -94,7 +94,7 @@ flat-noted (g ∷ gs) (x ∷ xs) (suc n) m ts h f =
     omega arith
 
 -- so many tokens more
-pub slots-total : (gs : List Given) (xs : List Slot) (es : List Event) → Holds gs xs → Placed gs es → length (flat (slots xs es)) ≡ length (flat xs) + total es
+pub slots-total : (gs : List GivenToken) (xs : List Slot) (es : List Event) → SlotsHold gs xs → Placed gs es → length (flat (slots xs es)) ≡ length (flat xs) + total es
 unfolding slots total Placed
 slots-total gs xs [] h p = omega arith
 slots-total gs xs (put t ∷ es) h p =

@@ -12,7 +12,7 @@ use Rattle.yaml_text.specs.Refusal.{got}
 use Rattle.yaml_text.specs.Test.{by-pick, by-test}
 use Rattle.yaml_text.specs.All.{All, all-bind, all-both, all-weak, holds}
 use Rattle.yaml_text.specs.DecodeLaws.{NoNul}
-use Rattle.yaml_text.specs.PlaceLaws.{Fits, fits-left, left}
+use Rattle.yaml_text.specs.PlaceLaws.{FurtherOn, fits-left, left}
 use Rattle.yaml_lexeme.specs.declared.Before.{Before}
 use Rattle.yaml_lexeme.specs.Gap.{Gap, gap-turn, skip-gap}
 use Rattle.yaml_lexeme.specs.Block.{one-if}
@@ -28,7 +28,7 @@ use Rattle.yaml_scan.specs.Fetch.{fetch, fetch-next}
 use Rattle.yaml_scan.specs.Scan.{step, to-next-token, unrolled}
 use Rattle.yaml_scan.specs.Candidates.{Over}
 use Rattle.yaml_scan.specs.ChoiceLaws.{choice-says}
-use Rattle.yaml_scan.specs.Runs.{Next, lapsed, next-news, some-left}
+use Rattle.yaml_scan.specs.Runs.{TakesOrEnds, lapsed, next-news, some-left}
 use Rattle.yaml_scan.specs.Moves.{Moves}
 use Rattle.yaml_scan.specs.FetchMoves.{fetch-moves, stream-end-moves}
 
@@ -43,7 +43,7 @@ pub data Lapses (s : State) (m : Mark) : List Candidate → Type 0 where
   stays : in-flow s ≡ false → (Over m (top-key (s .keys)) → ⊥) → Lapses s m (set-key (top-key (s .keys)) (s .keys))
 
 pub data Gapped (s : State) : State → Type 0 where
-  gapped : {p : Place} {leads a : Bool} {ks : List Candidate} → Fits (s .place) p → (NoNul (rest-of s) → Spares (s .place) p) → Lapses s (p .mark) ks
+  gapped : {p : Place} {leads a : Bool} {ks : List Candidate} → FurtherOn (s .place) p → (NoNul (rest-of s) → Spares (s .place) p) → Lapses s (p .mark) ks
       → Gapped s (with-keys ks (at-place p leads (allow a s)))
 
 pub one-most : (b : Bool) → one-if b ≤ 1
@@ -65,11 +65,11 @@ gap-spares flow allowed b m (c ∷ cs) =
 
 -- the gap and the lapse
 
-gap-made : {s : State} (p : Place) (leads a : Bool) (ks : List Candidate) → Fits (s .place) p → (NoNul (rest-of s) → Spares (s .place) p) → Lapses s (p .mark) ks
+gap-made : {s : State} (p : Place) (leads a : Bool) (ks : List Candidate) → FurtherOn (s .place) p → (NoNul (rest-of s) → Spares (s .place) p) → Lapses s (p .mark) ks
     → All State (Gapped s) (got (with-keys ks (at-place p leads (allow a s))))
 gap-made {s} p leads a ks f h l = let g : Gapped s (with-keys ks (at-place p leads (allow a s))) = gapped f h l in holds g
 
-lapse-gapped : (s : State) (p : Place) (leads a : Bool) → Fits (s .place) p → (NoNul (rest-of s) → Spares (s .place) p)
+lapse-gapped : (s : State) (p : Place) (leads a : Bool) → FurtherOn (s .place) p → (NoNul (rest-of s) → Spares (s .place) p)
     → All State (Gapped s) (lapse-key (at-place p leads (allow a s)))
 unfolding lapse-key in-flow
 lapse-gapped s p leads a f h =
@@ -92,10 +92,10 @@ to-next-token-gapped s =
 
 -- a move takes a character
 abbrev pub Takes : State → News → Type 0
-Takes s (goes-on es u) = (left (u .place) < left (s .place)) × Fits (s .place) (u .place)
+Takes s (goes-on es u) = (left (u .place) < left (s .place)) × FurtherOn (s .place) (u .place)
 Takes s (ends-with es) = Unit {0}
 
-takes : (s : State) (w : News) → Next [] s w → Takes s w
+takes : (s : State) (w : News) → TakesOrEnds [] s w → Takes s w
 takes s (goes-on es u) h = (h .0, h .1)
 takes s (ends-with es) h = tt
 

@@ -64,10 +64,10 @@ fall-top b [] f = tt
 fall-top b (k ∷ ks) f = f
 
 -- token n is a candidate, and none came before it: it is that of a level further out, or of this one, and then there is none further out
-pub data Holds (n : ℕ) (ks : List Candidate) : Type 0 where
-  outer : possible n (drop 1 ks) ≡ true → Holds n ks
-  none : Absents ks → Holds n ks
-  only : possible n ks ≡ true → Absents (drop 1 ks) → Holds n ks
+pub data IsFirstKey (n : ℕ) (ks : List Candidate) : Type 0 where
+  outer : possible n (drop 1 ks) ≡ true → IsFirstKey n ks
+  none : Absents ks → IsFirstKey n ks
+  only : possible n ks ≡ true → Absents (drop 1 ks) → IsFirstKey n ks
 
 possible-more : (n : ℕ) (c : Candidate) (ks : List Candidate) → possible n ks ≡ true → possible n (c ∷ ks) ≡ true
 unfolding possible
@@ -83,7 +83,7 @@ possible-drop n [] e = e
 possible-drop n (c ∷ ks) e = possible-more n c ks e
 
 -- so it is where n is a possible key
-pub holds-possible : (n b : ℕ) (ks : List Candidate) → From n ks → Fall b ks → possible n ks ≡ true → Holds n ks
+pub holds-possible : (n b : ℕ) (ks : List Candidate) → From n ks → Fall b ks → possible n ks ≡ true → IsFirstKey n ks
 unfolding possible
 holds-possible n b [] h f e = true-false (sym e)
 holds-possible n b (Absent ∷ ks) h f e = outer e
@@ -93,22 +93,22 @@ holds-possible n b (Possible required k m ∷ ks) h f e =
     (λ i. outer (rw i at e))
 
 -- and where all tokens were given
-pub holds-none : (n : ℕ) (ks : List Candidate) → From n ks → Fall n ks → Holds n ks
+pub holds-none : (n : ℕ) (ks : List Candidate) → From n ks → Fall n ks → IsFirstKey n ks
 holds-none n ks h f = none (fall-absents n ks f h)
 
 -- the gap and the lapse
 
-holds-lapsed : (n : ℕ) (ks : List Candidate) → Holds n ks → Holds n (set-key Absent ks)
+holds-lapsed : (n : ℕ) (ks : List Candidate) → IsFirstKey n ks → IsFirstKey n (set-key Absent ks)
 holds-lapsed n ks (outer e) = outer e
 holds-lapsed n ks (none h) = none (absents-drop ks h)
 holds-lapsed n ks (only e h) = none h
 
-holds-top : (n : ℕ) (ks : List Candidate) → Holds n ks → Holds n (set-key (top-key ks) ks)
+holds-top : (n : ℕ) (ks : List Candidate) → IsFirstKey n ks → IsFirstKey n (set-key (top-key ks) ks)
 unfolding top-key
 holds-top n [] h = none tt
 holds-top n (c ∷ ks) h = h
 
-gap-holds : {s t : State} (n : ℕ) → Gapped s t → Holds n (s .keys) → Holds n (t .keys)
+gap-holds : {s t : State} (n : ℕ) → Gapped s t → IsFirstKey n (s .keys) → IsFirstKey n (t .keys)
 gap-holds n (gapped f spares (inside e)) h = h
 gap-holds {s} n (gapped f spares (lapses e)) h = holds-lapsed n (s .keys) h
 gap-holds {s} n (gapped f spares (stays e k)) h = holds-top n (s .keys) h
@@ -128,17 +128,17 @@ pub record Last (n k : ℕ) (s : State) (es : List Event) (ks : List Candidate) 
   pub is : es ≡ front ++ (put last ∷ [])
   pub numbered : k ≡ s .count + puts front
   pub falls : Fall (s .count) (s .keys) → Fall (suc k) ks
-  pub alone : Holds n (s .keys) → (possible n ks ≡ true) ⊎ From k ks
+  pub alone : IsFirstKey n (s .keys) → (possible n ks ≡ true) ⊎ From k ks
 
 -- the candidate of this level is gone, or the level
-gone : (n k : ℕ) (ks : List Candidate) → Holds n ks → (possible n (drop 1 ks) ≡ true) ⊎ From k (drop 1 ks)
+gone : (n k : ℕ) (ks : List Candidate) → IsFirstKey n ks → (possible n (drop 1 ks) ≡ true) ⊎ From k (drop 1 ks)
 gone n k ks (outer e) = inl e
 gone n k ks (none h) = inr (absents-from k (drop 1 ks) (absents-drop ks h))
 gone n k ks (only e h) = inr (absents-from k (drop 1 ks) h)
 
 -- the token may be the candidate of this level
 abbrev Saved : ℕ → State → List Candidate → Type 0
-Saved n s ks = (Fall (s .count) (s .keys) → Fall (suc (s .count)) ks) × (Holds n (s .keys) → (possible n ks ≡ true) ⊎ From (s .count) ks)
+Saved n s ks = (Fall (s .count) (s .keys) → Fall (suc (s .count)) ks) × (IsFirstKey n (s .keys) → (possible n ks ≡ true) ⊎ From (s .count) ks)
 
 saved-new : (n : ℕ) (s : State) (required : Bool) (m : Mark) → Saved n s (Possible required (s .count) m ∷ drop 1 (s .keys))
 saved-new n s required m = (λ f. (omega arith, fall-drop (s .count) (s .keys) f), λ h. new (gone n (s .count) (s .keys) h))
@@ -151,7 +151,7 @@ saved-new n s required m = (λ f. (omega arith, fall-drop (s .count) (s .keys) f
 saved-none : (n : ℕ) (s : State) → Saved n s (s .keys)
 saved-none n s = (λ f. fall-less (s .count) (suc (s .count)) (s .keys) (omega arith) f, old)
   where
-    old : Holds n (s .keys) → (possible n (s .keys) ≡ true) ⊎ From (s .count) (s .keys)
+    old : IsFirstKey n (s .keys) → (possible n (s .keys) ≡ true) ⊎ From (s .count) (s .keys)
     old (outer e) = inl (possible-drop n (s .keys) e)
     old (none h) = inr (absents-from (s .count) (s .keys) h)
     old (only e h) = inl e

@@ -26,7 +26,7 @@ use Rattle.yaml_scan.specs.Slots.{Slot, slot}
 use Rattle.yaml_stream.specs.Stream.{Called, Stream, after-news, begun, behind, broken, budget, call, closing, crowded, first-of, fresh, give, least-records, possible, ready, scanning, sought, stepped, token, waits}
 use Rattle.yaml_stream.specs.Kept.{From}
 use Rattle.yaml_stream.specs.Alone.{LastOf, step-last}
-use Rattle.yaml_stream.specs.Waiting.{Held, Keeps, Reaches, call-reaches, here as at-once, holds-before, not-false, reaches-keeps, stepped-keeps, waits-then}
+use Rattle.yaml_stream.specs.Waiting.{Held, StreamKeeps, StreamReaches, call-reaches, here as at-once, holds-before, not-false, reaches-keeps, stepped-keeps, waits-then}
 use Rattle.yaml_stream.specs.Answers.{Comes, here, then-call}
 use Rattle.yaml_stream.specs.Levels.{OnLevel, new-on, on-absents, on-none}
 use Rattle.yaml_stream.specs.Seeks.{found-ready}
@@ -38,13 +38,13 @@ pub record Bare (xs : List Slot) : Type 0 where
   pub is : xs ≡ others ++ (slot last [] ∷ [])
 
 -- between two calls; l: the only flow level that may have a candidate
-pub record Between (l : ℕ) (s : State) (n : ℕ) (xs : List Slot) : Type 0 where
+pub record BetweenCalls (l : ℕ) (s : State) (n : ℕ) (xs : List Slot) : Type 0 where
   pub level : (i : ℕ) → OnLevel i l (s .keys)
   pub others-not : (i : ℕ) → suc i < s .count → possible i (s .keys) ≡ false
   pub bare : (xs ≡ []) ⊎ Bare xs
 
 abbrev pub BetweenIn : Stream → Type 0
-BetweenIn (scanning s n xs used) = (l : ℕ) × Between l s n xs
+BetweenIn (scanning s n xs used) = (l : ℕ) × BetweenCalls l s n xs
 BetweenIn (closing xs) = Unit {0}
 BetweenIn (broken k m) = Unit {0}
 
@@ -57,7 +57,7 @@ pub record Lone (s : State) (n : ℕ) (xs : List Slot) : Type 0 where
   pub numbered : suc n ≡ s .count
   pub first : possible n (s .keys) ≡ true
 
-pub to-scan : {l : ℕ} {s : State} {n : ℕ} {xs : List Slot} (used : ℕ) → n + length xs ≡ s .count → Between l s n xs → ready (scanning s n xs used) ≡ false → (xs ≡ []) ⊎ Lone s n xs
+pub to-scan : {l : ℕ} {s : State} {n : ℕ} {xs : List Slot} (used : ℕ) → n + length xs ≡ s .count → BetweenCalls l s n xs → ready (scanning s n xs used) ≡ false → (xs ≡ []) ⊎ Lone s n xs
 unfolding ready
 to-scan {s = s} {n = n} {xs = xs} used c h r = by-slots xs refl
   where
@@ -92,7 +92,7 @@ from-not i k (Possible required j m ∷ ks) h b = rw (ne-eqb i j (λ e. omega (a
 
 -- behind it the first waiting token is still a possible key, or the call pauses; the level is that from which the step was made
 abbrev pub Pauses : State → ℕ → List Slot → News → Type 0
-Pauses s n xs (goes-on es t) = (possible n (t .keys) ≡ true) ⊎ Between (length (s .levels)) t n (waits n xs es)
+Pauses s n xs (goes-on es t) = (possible n (t .keys) ≡ true) ⊎ BetweenCalls (length (s .levels)) t n (waits n xs es)
 Pauses s n xs (ends-with es) = Unit {0}
 
 pub step-pauses : (limits : Limits) (s : State) (n : ℕ) (xs : List Slot) (used : ℕ) → Held limits s n xs → ready (scanning s n xs used) ≡ false → (es : List Event) (t : State)
@@ -141,14 +141,14 @@ bare-part t b bs xs (inr a) = by-others (a .others) (a .is)
         inr (record { others = slot t bs ∷ ys; last = a .last; is = ap (λ (zs : List Slot). slot t bs ∷ zs) g })
 
 -- its slot's own, or one that was put in before it: the level stays
-pub between-given : {l : ℕ} {s : State} {n : ℕ} {t : Token} {xs : List Slot} → Between l s n (slot t [] ∷ xs) → Between l s (suc n) xs
+pub between-given : {l : ℕ} {s : State} {n : ℕ} {t : Token} {xs : List Slot} → BetweenCalls l s n (slot t [] ∷ xs) → BetweenCalls l s (suc n) xs
 between-given {t = t} {xs = xs} h = record { level = h .level; others-not = h .others-not; bare = bare-rest (slot t []) xs (h .bare) }
 
-pub between-part : {l : ℕ} {s : State} {n : ℕ} {t b : Token} {bs : List Token} {xs : List Slot} → Between l s n (slot t (b ∷ bs) ∷ xs) → Between l s n (slot t bs ∷ xs)
+pub between-part : {l : ℕ} {s : State} {n : ℕ} {t b : Token} {bs : List Token} {xs : List Slot} → BetweenCalls l s n (slot t (b ∷ bs) ∷ xs) → BetweenCalls l s n (slot t bs ∷ xs)
 between-part {t = t} {b = b} {bs = bs} {xs = xs} h = record { level = h .level; others-not = h .others-not; bare = bare-part t b bs xs (h .bare) }
 
 -- the first slots, whatever goes in before their tokens
-pub between-drop : {l : ℕ} {s : State} {n : ℕ} (k i : ℕ) {xs : List Slot} → Between l s n xs → Between l s i (drop k xs)
+pub between-drop : {l : ℕ} {s : State} {n : ℕ} (k i : ℕ) {xs : List Slot} → BetweenCalls l s n xs → BetweenCalls l s i (drop k xs)
 between-drop {n = n} k i {xs = xs} h = record { level = h .level; others-not = h .others-not; bare = bare-drop k xs (h .bare) }
   where
     bare-drop : (j : ℕ) (ys : List Slot) → (ys ≡ []) ⊎ Bare ys → (drop j ys ≡ []) ⊎ Bare (drop j ys)
@@ -197,7 +197,7 @@ behind-mid room s n xs used h =
     (λ e. rw (e, behind) (inr tt))
     (λ e. by-test (crowded s n xs) (λ f. rw (e, f, behind) (inr tt)) (λ f. rw (e, f, behind) h))
 
-stepped-mid : (limits : Limits) (room : ℕ) (x : Stream) → Keeps limits x → ready x ≡ false → MidIn (stepped limits room x)
+stepped-mid : (limits : Limits) (room : ℕ) (x : Stream) → StreamKeeps limits x → ready x ≡ false → MidIn (stepped limits room x)
 unfolding stepped
 stepped-mid limits room (scanning s n xs used) h r = by-step (step limits s) refl
   where
@@ -208,7 +208,7 @@ stepped-mid limits room (scanning s n xs used) h r = by-step (step limits s) ref
 stepped-mid limits room (closing xs) h r = inr tt
 stepped-mid limits room (broken k m) h r = inr tt
 
-sought-mid : (limits : Limits) (room k : ℕ) (x : Stream) → Keeps limits x → MidIn x → MidIn (sought limits room k x)
+sought-mid : (limits : Limits) (room k : ℕ) (x : Stream) → StreamKeeps limits x → MidIn x → MidIn (sought limits room k x)
 unfolding sought
 sought-mid limits room zero x h m = m
 sought-mid limits room (suc k) x h m =
@@ -216,7 +216,7 @@ sought-mid limits room (suc k) x h m =
     (λ e. rw (e, sought) m)
     (λ e. rw (e, sought) (sought-mid limits room k (stepped limits room x) (stepped-keeps limits room x h e) (stepped-mid limits room x h e)))
 
-pub call-between : (limits : Limits) (room : ℕ) (x : Stream) → Keeps limits x → BetweenIn x → BetweenIn (call limits room x .stream)
+pub call-between : (limits : Limits) (room : ℕ) (x : Stream) → StreamKeeps limits x → BetweenIn x → BetweenIn (call limits room x .stream)
 unfolding call
 call-between limits room x h b =
     give-between (sought limits room (budget x) x) (by-mid (sought limits room (budget x) x) (found-ready limits room (budget x) x (le-refl _)) (sought-mid limits room (budget x) x h (inr b)))
@@ -228,7 +228,7 @@ call-between limits room x h b =
 -- a fresh state
 
 -- whatever level is noted for it
-pub begin-between : (l : ℕ) (cs : List ℕ) → Between l (begin cs) 0 (slot (empty-token StreamStart origin) [] ∷ [])
+pub begin-between : (l : ℕ) (cs : List ℕ) → BetweenCalls l (begin cs) 0 (slot (empty-token StreamStart origin) [] ∷ [])
 begin-between l cs =
     record { level = λ i. on-absents i l (Absent ∷ []) tt; others-not = λ i b. absurd (omega arith); bare = inr (record { others = []; last = empty-token StreamStart origin; is = refl }) }
 
@@ -248,11 +248,11 @@ fresh-between limits bytes words =
 
 -- and so in every stream behind whole calls
 
-pub comes-reaches : (limits : Limits) (room : ℕ) {x y : Stream} {ts : List Token} → Comes limits room x ts y → Reaches limits room x y
+pub comes-reaches : (limits : Limits) (room : ℕ) {x y : Stream} {ts : List Token} → Comes limits room x ts y → StreamReaches limits room x y
 comes-reaches limits room here = at-once
 comes-reaches limits room (then-call {y = y} r e) = rw (ap (λ (c : Called). c .stream) e) at (call-reaches limits room y (comes-reaches limits room r))
 
-pub comes-between : (limits : Limits) (room : ℕ) {x y : Stream} {ts : List Token} → Keeps limits x → BetweenIn x → Comes limits room x ts y → BetweenIn y
+pub comes-between : (limits : Limits) (room : ℕ) {x y : Stream} {ts : List Token} → StreamKeeps limits x → BetweenIn x → Comes limits room x ts y → BetweenIn y
 comes-between limits room h b here = b
 comes-between limits room h b (then-call {y = y} r e) =
     let k = reaches-keeps limits room h (comes-reaches limits room r) in

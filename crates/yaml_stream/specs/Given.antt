@@ -41,7 +41,7 @@ pub data Own (words room : ℕ) (list : List Token) : ℕ → Mark → Type 0 wh
 module _ (limits : Limits) (words room : ℕ) (list : List Token) where
   -- what a stream has still to give if it meets none of them: us, and then the run's close c.
   -- No candidate names a token that was given, and each token that was said and not given waits
-  pub record Scans (s : State) (n : ℕ) (xs : List Slot) (used : ℕ) (us : List Token) (c : Close) : Type 0 where
+  pub record StillGives (s : State) (n : ℕ) (xs : List Slot) (used : ℕ) (us : List Token) (c : Close) : Type 0 where
     pub steps : ℕ
     pub enough : left (s .place) < steps
     pub from : From n (s .keys)
@@ -52,13 +52,13 @@ module _ (limits : Limits) (words room : ℕ) (list : List Token) where
     pub tokens-left : length (flat xs) + total (tale limits steps s .events) ≤ length list
 
   abbrev pub Owes : List Token → Close → Stream → Type 0
-  Owes us c (scanning s n xs used) = Scans s n xs used us c
+  Owes us c (scanning s n xs used) = StillGives s n xs used us c
   Owes us c (closing xs) = (us ≡ flat xs) × (c ≡ at-end)
   Owes us c (broken k m) = (c ≡ at-rule k m) ⊎ Own words room list k m
 
   -- a step
 
-  behind-owes : {us : List Token} {c : Close} (s : State) (n : ℕ) (xs : List Slot) (used : ℕ) → Scans s n xs used us c → Owes us c (behind room s n xs used)
+  behind-owes : {us : List Token} {c : Close} (s : State) (n : ℕ) (xs : List Slot) (used : ℕ) → StillGives s n xs used us c → Owes us c (behind room s n xs used)
   unfolding behind crowded
   behind-owes s n xs used h =
       by-test (ltb room used)
@@ -122,12 +122,12 @@ module _ (limits : Limits) (words room : ℕ) (list : List Token) where
   Answered us c (refusal k m) x = (c ≡ at-rule k m) ⊎ Own words room list k m
   Answered us c spent x = ⊥
 
-  abbrev pub Answers : List Token → Close → Called → Type 0
-  Answers us c a = Answered us c (a .answer) (a .stream)
+  abbrev pub CallAnswers : List Token → Close → Called → Type 0
+  CallAnswers us c a = Answered us c (a .answer) (a .stream)
 
   -- the first slot's token is no possible key
   first-scanned : {us : List Token} {c : Close} (s : State) (n : ℕ) (bs : List Token) (t : Token) (xs : List Slot) (used : ℕ)
-      → Scans limits words room list s n (slot t bs ∷ xs) used us c → possible n (s .keys) ≡ false → Answers us c (first-of (λ k ys. scanning s k ys used) n bs t xs)
+      → StillGives limits words room list s n (slot t bs ∷ xs) used us c → possible n (s .keys) ≡ false → CallAnswers us c (first-of (λ k ys. scanning s k ys used) n bs t xs)
   unfolding first-of flat
   first-scanned s n [] t xs used h e =
       let f = from-next n (s .keys) (h .from) e in
@@ -167,12 +167,12 @@ module _ (limits : Limits) (words room : ℕ) (list : List Token) where
       )
 
   first-closing : {us : List Token} {c : Close} (bs : List Token) (t : Token) (xs : List Slot) → us ≡ bs ++ (t ∷ flat xs) → c ≡ at-end
-      → Answers us c (first-of (λ _ ys. closing ys) 0 bs t xs)
+      → CallAnswers us c (first-of (λ _ ys. closing ys) 0 bs t xs)
   unfolding first-of flat
   first-closing [] t xs e f = (flat xs, e, (refl, f))
   first-closing (b ∷ bs) t xs e f = (bs ++ (t ∷ flat xs), e, (refl, f))
 
-  give-answers : (us : List Token) (c : Close) (x : Stream) → ready x ≡ true → Owes limits words room list us c x → Answers us c (give x)
+  give-answers : (us : List Token) (c : Close) (x : Stream) → ready x ≡ true → Owes limits words room list us c x → CallAnswers us c (give x)
   unfolding give ready flat
   give-answers us c (scanning s n [] used) r h = true-false (sym r)
   give-answers us c (scanning s n (x ∷ xs) used) r h =
@@ -182,7 +182,7 @@ module _ (limits : Limits) (words room : ℕ) (list : List Token) where
   give-answers us c (closing (x ∷ xs)) r h = first-closing (x .before) (x .token) xs (h .0) (h .1)
   give-answers us c (broken k m) r h = h
 
-  pub call-answers : (us : List Token) (c : Close) (x : Stream) → Owes limits words room list us c x → Answers us c (call limits room x)
+  pub call-answers : (us : List Token) (c : Close) (x : Stream) → Owes limits words room list us c x → CallAnswers us c (call limits room x)
   unfolding call
   call-answers us c x h =
       give-answers us c (sought limits room (budget x) x) (found-ready limits room (budget x) x (le-refl _)) (sought-owes limits words room list us c (budget x) x h)

@@ -36,7 +36,7 @@ use Rattle.yaml_scan.specs.Document.{all-ends, fetch-byte-order-mark, fetch-dir
 use Rattle.yaml_scan.specs.Choice.{choice}
 use Rattle.yaml_scan.specs.Fetch.{fetch, fetch-anchor, fetch-block-scalar, fetch-flow-scalar, fetch-plain-scalar, fetch-tag}
 use Rattle.yaml_scan.specs.Scan.{step, to-next-token, unrolled}
-use Rattle.yaml_scan.specs.ChoiceLaws.{Says, choice-says}
+use Rattle.yaml_scan.specs.ChoiceLaws.{ChoiceSays, choice-says}
 use Rattle.yaml_scan.specs.Moves.{Enters, Move, Moves, begins, closes, leaves, opens, parts, tells, uses}
 use Rattle.yaml_scan.specs.Steps.{Gapped, Takes, gapped, inside, lapses, stays, step-by, unrolled-state}
 use Rattle.yaml_stream.specs.Alone.{Absents}
@@ -155,7 +155,7 @@ module _ (s : State) (alone : in-flow s ≡ false → Absents (drop 1 (s .keys))
   value-behind limits Absent = all-need _ _ _ _ (all-bind _ (all-any _) (λ r _. said (empty-if (begins-pair (s .levels)) FlowMappingStart (mark-of s) ++ empty-if (r .starts) BlockMappingStart (mark-of s)) _ _ (inl refl)))
   value-behind limits (Possible required n m) = all-bind _ (all-any _) (λ r _. said (put-before n _ ∷ []) _ _ (inl refl))
 
-  fetch-behind : (limits : Limits) (c : Choice) → Says c s → All News Behind (fetch limits c s)
+  fetch-behind : (limits : Limits) (c : Choice) → ChoiceSays c s → All News Behind (fetch limits c s)
   unfolding fetch
   fetch-behind limits AtEnd h = stream-end-behind
   fetch-behind limits AtDirective h = directive-behind (h .0)

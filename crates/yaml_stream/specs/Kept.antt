@@ -114,15 +114,15 @@ from-move {t} n s (begins {pair = p} {r = r} sequence m e k) b h =
 from-move n s (uses e k c) b h = ((from-used n (s .keys) h c, tt), from-drop n (s .keys) h)
 
 -- what a step from the state s keeps
-abbrev pub Kept : ℕ → State → News → Type 0
-Kept n s (goes-on es t) = NotesFrom n es × From n (t .keys) × (t .count ≡ s .count + puts es)
-Kept n s (ends-with es) = NotesFrom n es
+abbrev pub StepKeeps : ℕ → State → News → Type 0
+StepKeeps n s (goes-on es t) = NotesFrom n es × From n (t .keys) × (t .count ≡ s .count + puts es)
+StepKeeps n s (ends-with es) = NotesFrom n es
 
-pub step-keeps : (n : ℕ) (limits : Limits) (s : State) → n ≤ s .count → From n (s .keys) → All News (Kept n s) (step limits s)
+pub step-keeps : (n : ℕ) (limits : Limits) (s : State) → n ≤ s .count → From n (s .keys) → All News (StepKeeps n s) (step limits s)
 step-keeps n limits s b h = step-by limits s by-news
   where
     by-news : (t : State) → Gapped s t → (w : News) → Moves (unrolled-state t) w → Takes (unrolled-state t) w
-        → Kept n s (preceded (block-ends (unrolled t .ended) (mark-of t)) w)
+        → StepKeeps n s (preceded (block-ends (unrolled t .ended) (mark-of t)) w)
     by-news t g (goes-on es u) m k =
         let f = from-gap n g h in
         let bs = block-ends (unrolled t .ended) (mark-of t) in

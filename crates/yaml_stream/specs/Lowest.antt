@@ -14,7 +14,7 @@ use Rattle.yaml_scan.specs.Slots.{Slot}
 use Rattle.yaml_scan.specs.Candidates.{Fall}
 use Rattle.yaml_stream.specs.Stream.{fresh, possible, scanning}
 use Rattle.yaml_stream.specs.Kept.{From}
-use Rattle.yaml_stream.specs.Waiting.{Reaches, fresh-keeps, reaches-keeps}
+use Rattle.yaml_stream.specs.Waiting.{StreamReaches, fresh-keeps, reaches-keeps}
 
 -- the candidate of a level, unless one further out has one
 abbrev pub unless : Candidate → Candidate → Candidate
@@ -67,7 +67,7 @@ possible-lowest n b (Possible required k m ∷ ks) h f =
 
 -- in every stream that calls come to
 pub first-possible : (limits : Limits) (bytes : List ℕ) (words room : ℕ) {s : State} {n used : ℕ} {xs : List Slot}
-    → Reaches limits room (fresh limits bytes words) (scanning s n xs used)
+    → StreamReaches limits room (fresh limits bytes words) (scanning s n xs used)
     → From n (s .keys) × Fall (s .count) (s .keys) × (possible n (s .keys) ≡ names n (lowest (s .keys)))
 first-possible limits bytes words room {s = s} {n = n} r =
     let h = reaches-keeps limits room (fresh-keeps limits bytes words) r in

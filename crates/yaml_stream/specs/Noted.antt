@@ -17,31 +17,31 @@ use Rattle.yaml_scan.specs.declared.Limits.{Limits}
 use Rattle.yaml_scan.specs.State.{Event, News, State, ends-with, goes-on}
 use Rattle.yaml_scan.specs.Scan.{step}
 use Rattle.yaml_scan.specs.Slots.{Slot, slot}
-use Rattle.yaml_scan.specs.SlotLaws.{Holds}
-use Rattle.yaml_scan.specs.Candidates.{Given, Placed, Sound, given, late, ready}
+use Rattle.yaml_scan.specs.SlotLaws.{SlotsHold}
+use Rattle.yaml_scan.specs.Candidates.{GivenToken, Placed, Sound, given, late, ready}
 use Rattle.yaml_scan.specs.Runs.{Stepped, step-news}
 use Rattle.yaml_scan.specs.Budget.{begin-sound, on-news}
 use Rattle.yaml_stream.specs.Stream.{Stream, after-news, begun, behind, broken, closing, counted-from, crowded, first-of, fresh, give, least-records, possible, scanning, stepped, waits}
-use Rattle.yaml_stream.specs.Kept.{Kept, NotesFrom, step-keeps}
-use Rattle.yaml_stream.specs.Waiting.{Held, Keeps, Reaches, fresh-keeps, here, reaches-keeps, then-give, then-step}
+use Rattle.yaml_stream.specs.Kept.{StepKeeps, NotesFrom, step-keeps}
+use Rattle.yaml_stream.specs.Waiting.{Held, StreamKeeps, StreamReaches, fresh-keeps, here, reaches-keeps, then-give, then-step}
 use Rattle.yaml_stream.specs.Notes.{AllNoted, Notes, NotesIn, counted-given, counted-notes, counted-placed, holds-after, no-note, note-rest, noted-after, step-notes}
 
 -- what waits
 pub record Noted (s : State) (n : ℕ) (xs : List Slot) : Type 0 where
   -- all tokens, those given too
-  pub all : List Given
+  pub all : List GivenToken
   pub sound : Sound all s
-  pub holds-last : Holds (drop n all) xs
+  pub holds-last : SlotsHold (drop n all) xs
   pub noted : AllNoted xs
 
 abbrev pub NotedIn : Stream → Type 0
 NotedIn (scanning s n xs used) = Noted s n xs
-NotedIn (closing xs) = (gs : List Given) × Holds gs xs × AllNoted xs
+NotedIn (closing xs) = (gs : List GivenToken) × SlotsHold gs xs × AllNoted xs
 NotedIn (broken k m) = Unit {0}
 
 -- a step
 
-pub sound-count : {gs : List Given} {s : State} → Sound gs s → s .count ≡ length gs
+pub sound-count : {gs : List GivenToken} {s : State} → Sound gs s → s .count ≡ length gs
 sound-count (ready r) = r .counted
 sound-count (late e o r) = r .counted
 
@@ -50,7 +50,7 @@ module _ (limits : Limits) (s : State) (n : ℕ) (xs : List Slot) (k : Held limi
   least = omega (arith, k .counted, sound-count (h .sound))
 
   -- what the slots hold then, and what goes in before their tokens
-  holds-then : (es : List Event) → NotesFrom n es → Holds (drop n (given (h .all) es)) (waits n xs es)
+  holds-then : (es : List Event) → NotesFrom n es → SlotsHold (drop n (given (h .all) es)) (waits n xs es)
   unfolding waits
   holds-then es f = rw (sym (counted-given n es (h .all) least f)) (holds-after (map (counted-from n) es) (drop n (h .all)) xs (h .holds-last))
 
@@ -66,7 +66,7 @@ module _ (limits : Limits) (s : State) (n : ℕ) (xs : List Slot) (k : Held limi
   pub step-noted : All News NotedThen (step limits s)
   step-noted = all-weak by-news (all-both (step-news (h .all) limits s) (all-both (step-keeps n limits s (omega (arith, k .counted)) (k .from)) (step-notes limits s)))
     where
-      by-news : (w : News) → Stepped (h .all) s w × (Kept n s w × NotesIn w) → NotedThen w
+      by-news : (w : News) → Stepped (h .all) s w × (StepKeeps n s w × NotesIn w) → NotedThen w
       by-news (goes-on es t) i =
           let j = i .0 .sound (h .sound) in
           let f = i .1 .0 .0 in
@@ -82,7 +82,7 @@ behind-noted room s n xs used h =
     (λ e. rw (e, behind) tt)
     (λ e. by-test (crowded s n xs) (λ f. rw (e, f, behind) tt) (λ f. rw (e, f, behind) h))
 
-pub stepped-noted : (limits : Limits) (room : ℕ) (x : Stream) → Keeps limits x → NotedIn x → NotedIn (stepped limits room x)
+pub stepped-noted : (limits : Limits) (room : ℕ) (x : Stream) → StreamKeeps limits x → NotedIn x → NotedIn (stepped limits room x)
 unfolding stepped
 stepped-noted limits room (scanning s n xs used) k h =
     on-news (λ w. NotedIn (after-news room n xs used w)) (step-noted limits s n xs k h) (λ es t i. behind-noted room t n (waits n xs es) _ i) (λ es i. i) (λ _ _. tt)
@@ -91,11 +91,11 @@ stepped-noted limits room (broken j m) k h = tt
 
 -- a token is given
 
-holds-rest : (gs : List Given) (x : Slot) (xs : List Slot) → Holds gs (x ∷ xs) → Holds (drop 1 gs) xs
+holds-rest : (gs : List GivenToken) (x : Slot) (xs : List Slot) → SlotsHold gs (x ∷ xs) → SlotsHold (drop 1 gs) xs
 holds-rest [] x xs h = absurd h
 holds-rest (g ∷ gs) x xs h = h .2
 
-holds-part : (gs : List Given) (t b : Token) (bs : List Token) (xs : List Slot) → Holds gs (slot t (b ∷ bs) ∷ xs) → Holds gs (slot t bs ∷ xs)
+holds-part : (gs : List GivenToken) (t b : Token) (bs : List Token) (xs : List Slot) → SlotsHold gs (slot t (b ∷ bs) ∷ xs) → SlotsHold gs (slot t bs ∷ xs)
 holds-part [] t b bs xs h = absurd h
 holds-part (g ∷ gs) t b bs xs h = (h .0, λ e. ap (λ (ts : List Token). drop 1 ts) (h .1 e), h .2)
 
@@ -140,12 +140,12 @@ fresh-noted limits bytes words =
     by-text (holds {a = cs} d) = begun-noted words cs (d .no-nul)
     by-text not-read = tt
 
-pub reaches-noted : (limits : Limits) (room : ℕ) {x y : Stream} → Keeps limits x → NotedIn x → Reaches limits room x y → NotedIn y
+pub reaches-noted : (limits : Limits) (room : ℕ) {x y : Stream} → StreamKeeps limits x → NotedIn x → StreamReaches limits room x y → NotedIn y
 reaches-noted limits room k h here = h
 reaches-noted limits room k h (then-step {y = y} r e) = stepped-noted limits room y (reaches-keeps limits room k r) (reaches-noted limits room k h r)
 reaches-noted limits room k h (then-give {y = y} r) = give-noted y (reaches-noted limits room k h r)
 
 -- so in every stream that calls come to
 module _ (limits : Limits) (bytes : List ℕ) (words room : ℕ) where
-  pub reached-noted : {y : Stream} → Reaches limits room (fresh limits bytes words) y → NotedIn y
+  pub reached-noted : {y : Stream} → StreamReaches limits room (fresh limits bytes words) y → NotedIn y
   reached-noted r = reaches-noted limits room (fresh-keeps limits bytes words) (fresh-noted limits bytes words) r

@@ -20,8 +20,8 @@ use Rattle.yaml_scan.specs.Bracket.{implicit-open}
 use Rattle.yaml_scan.specs.Document.{all-ends}
 use Rattle.yaml_scan.specs.Scan.{step, unrolled}
 use Rattle.yaml_scan.specs.Slots.{Slot, flat, note, slot, slots}
-use Rattle.yaml_scan.specs.SlotLaws.{Holds, holds-more, holds-noted, total}
-use Rattle.yaml_scan.specs.Candidates.{EmptyAt, Free, Given, OnlyPuts, Placed, fresh, given, note-at, only-append, only-ends, only-if, only-one}
+use Rattle.yaml_scan.specs.SlotLaws.{SlotsHold, holds-more, holds-noted, total}
+use Rattle.yaml_scan.specs.Candidates.{EmptyAt, Free, GivenToken, OnlyPuts, Placed, fresh, given, note-at, only-append, only-ends, only-if, only-one}
 use Rattle.yaml_scan.specs.Moves.{Move, Moves, begins, block-start, closes, goes-in, leaves, opens, pair-end, parts, tells, uses}
 use Rattle.yaml_scan.specs.Steps.{Gapped, Takes, step-by, unrolled-state}
 use Rattle.yaml_stream.specs.Stream.{counted-from}
@@ -115,7 +115,7 @@ step-notes limits s = step-by limits s by-news
 
 -- slots after events
 
-pub holds-after : (es : List Event) (gs : List Given) (xs : List Slot) → Holds gs xs → Holds (given gs es) (slots xs es)
+pub holds-after : (es : List Event) (gs : List GivenToken) (xs : List Slot) → SlotsHold gs xs → SlotsHold (given gs es) (slots xs es)
 unfolding given slots
 holds-after [] gs xs h = h
 holds-after (put t ∷ es) gs xs h = holds-after es (gs ++ (fresh (t .start) ∷ [])) (xs ++ (slot t [] ∷ [])) (holds-more gs xs t h)
@@ -125,16 +125,16 @@ noted-more : (xs : List Slot) (t : Token) → AllNoted xs → AllNoted (xs ++ (s
 noted-more [] t h = (no-note, tt)
 noted-more (x ∷ xs) t h = (h .0, noted-more xs t (h .1))
 
-noted-note : (gs : List Given) (xs : List Slot) (n : ℕ) (m : Mark) (ts : List Token) → Holds gs xs → Free gs n m → Note m ts → AllNoted xs → AllNoted (note n ts xs)
+noted-note : (gs : List GivenToken) (xs : List Slot) (n : ℕ) (m : Mark) (ts : List Token) → SlotsHold gs xs → Free gs n m → Note m ts → AllNoted xs → AllNoted (note n ts xs)
 unfolding note
 noted-note gs [] n m ts h f k r = tt
 noted-note [] (x ∷ xs) n m ts h f k r = absurd h
 noted-note (g ∷ gs) (x ∷ xs) zero m ts h f k r =
-    let e : x .token .start ≡ m = h .0 ∙ ap (λ (j : Given). j .start) (f .1) in
+    let e : x .token .start ≡ m = h .0 ∙ ap (λ (j : GivenToken). j .start) (f .1) in
     (rw e k, r .1)
 noted-note (g ∷ gs) (x ∷ xs) (suc n) m ts h f k r = (r .0, noted-note gs xs n m ts (h .2) (omega (arith, f .0), f .1) k (r .1))
 
-pub noted-after : (es : List Event) (gs : List Given) (xs : List Slot) → Holds gs xs → Placed gs es → Notes es → AllNoted xs → AllNoted (slots xs es)
+pub noted-after : (es : List Event) (gs : List GivenToken) (xs : List Slot) → SlotsHold gs xs → Placed gs es → Notes es → AllNoted xs → AllNoted (slots xs es)
 unfolding Placed Notes slots
 noted-after [] gs xs h p k r = r
 noted-after (put t ∷ es) gs xs h p k r = noted-after es (gs ++ (fresh (t .start) ∷ [])) (xs ++ (slot t [] ∷ [])) (holds-more gs xs t h) p k (noted-more xs t r)
@@ -165,32 +165,32 @@ counted-total n [] = refl
 counted-total n (put t ∷ es) = ap suc (counted-total n es)
 counted-total n (put-before k ts ∷ es) = ap (λ (i : ℕ). length ts + i) (counted-total n es)
 
-note-drop : (n k : ℕ) (gs : List Given) → n ≤ k → note-at (k - n) (drop n gs) ≡ drop n (note-at k gs)
+note-drop : (n k : ℕ) (gs : List GivenToken) → n ≤ k → note-at (k - n) (drop n gs) ≡ drop n (note-at k gs)
 note-drop n k gs h =
     let i = k - n in
     let e : n + i ≡ k = omega arith in
-    ap (λ (g : Given). set (drop n gs) i (record { start = g .start; noted = true })) (getD-drop n gs i (fresh origin))
+    ap (λ (g : GivenToken). set (drop n gs) i (record { start = g .start; noted = true })) (getD-drop n gs i (fresh origin))
     ∙ sym (drop-set-add n gs i (record { start = getD gs (n + i) (fresh origin) .start; noted = true }))
     ∙ ap (λ (j : ℕ). drop n (note-at j gs)) e
 
-note-at-length : (k : ℕ) (gs : List Given) → length (note-at k gs) ≡ length gs
+note-at-length : (k : ℕ) (gs : List GivenToken) → length (note-at k gs) ≡ length gs
 note-at-length k gs = length-set gs k (record { start = getD gs k (fresh origin) .start; noted = true })
 
-pub counted-given : (n : ℕ) (es : List Event) (gs : List Given) → n ≤ length gs → NotesFrom n es → given (drop n gs) (map (counted-from n) es) ≡ drop n (given gs es)
+pub counted-given : (n : ℕ) (es : List Event) (gs : List GivenToken) → n ≤ length gs → NotesFrom n es → given (drop n gs) (map (counted-from n) es) ≡ drop n (given gs es)
 unfolding given NotesFrom
 counted-given n [] gs b h = refl
 counted-given n (put t ∷ es) gs b h =
     let f = fresh (t .start) ∷ [] in
-    ap (λ (hs : List Given). given hs (map (counted-from n) es)) (sym (drop-append-le n gs f b)) ∙ counted-given n es (gs ++ f) (omega (arith, length-append gs f)) h
+    ap (λ (hs : List GivenToken). given hs (map (counted-from n) es)) (sym (drop-append-le n gs f b)) ∙ counted-given n es (gs ++ f) (omega (arith, length-append gs f)) h
 counted-given n (put-before k ts ∷ es) gs b h =
-    ap (λ (hs : List Given). given hs (map (counted-from n) es)) (note-drop n k gs (h .0)) ∙ counted-given n es (note-at k gs) (omega (arith, note-at-length k gs)) (h .1)
+    ap (λ (hs : List GivenToken). given hs (map (counted-from n) es)) (note-drop n k gs (h .0)) ∙ counted-given n es (note-at k gs) (omega (arith, note-at-length k gs)) (h .1)
 
-free-drop : (n k : ℕ) (m : Mark) (gs : List Given) → n ≤ k → Free gs k m → Free (drop n gs) (k - n) m
+free-drop : (n k : ℕ) (m : Mark) (gs : List GivenToken) → n ≤ k → Free gs k m → Free (drop n gs) (k - n) m
 free-drop n k m gs h f =
     let e : n + (k - n) ≡ k = omega arith in
     (omega (arith, length-drop n gs, f .0), getD-drop n gs (k - n) (fresh origin) ∙ ap (λ (i : ℕ). getD gs i (fresh origin)) e ∙ f .1)
 
-pub counted-placed : (n : ℕ) (es : List Event) (gs : List Given) → n ≤ length gs → NotesFrom n es → Placed gs es → Placed (drop n gs) (map (counted-from n) es)
+pub counted-placed : (n : ℕ) (es : List Event) (gs : List GivenToken) → n ≤ length gs → NotesFrom n es → Placed gs es → Placed (drop n gs) (map (counted-from n) es)
 unfolding Placed NotesFrom
 counted-placed n [] gs b h p = tt
 counted-placed n (put t ∷ es) gs b h p =

@@ -30,7 +30,7 @@ use Rattle.yaml_scan.specs.Steps.{unrolled-state}
 use Rattle.yaml_stream.specs.Stream.{Stream, scanning}
 use Rattle.yaml_stream.specs.Alone.{Absents, absents-drop, absents-not}
 use Rattle.yaml_stream.specs.Here.{Alone}
-use Rattle.yaml_stream.specs.Waiting.{Reaches}
+use Rattle.yaml_stream.specs.Waiting.{StreamReaches}
 use Rattle.yaml_stream.specs.Ahead.{ahead-reaches, free-ahead}
 use Rattle.yaml_stream.specs.InList.{Listed}
 
@@ -95,8 +95,8 @@ colon-uses limits s v required n m e c k =
 -- from the ':' to the list's first entry
 
 -- where no candidate is left, all that waits is given, without a step
-pub drained : (limits : Limits) (room : ℕ) {x : Stream} (s : State) (n used : ℕ) (xs : List Slot) → Absents (s .keys) → Reaches limits room x (scanning s n xs used)
-    → (k : ℕ) × Reaches limits room x (scanning s k [] used)
+pub drained : (limits : Limits) (room : ℕ) {x : Stream} (s : State) (n used : ℕ) (xs : List Slot) → Absents (s .keys) → StreamReaches limits room x (scanning s n xs used)
+    → (k : ℕ) × StreamReaches limits room x (scanning s k [] used)
 drained limits room s n used xs h r =
     let k = length xs in
     (n + k, rw (drop-length xs) at (ahead-reaches limits room r (free-ahead limits room s n k xs used (le-refl k) (λ i _. absents-not i (s .keys) h))))
@@ -146,8 +146,8 @@ pub record KeyLine (limits : Limits) (s u : State) : Type 0 where
   pub second-step : step limits value ≡ got (goes-on second-events u)
 
 -- no candidate is left behind it: what waits is given, and the list stands before its first entry
-pub on-key-line : {limits : Limits} {s u : State} {x : Stream} {n used : ℕ} {xs : List Slot} (room : ℕ) → KeyLine limits s u → Reaches limits room x (scanning u n xs used)
-    → (k : ℕ) × Reaches limits room x (scanning u k [] used) × Listed u []
+pub on-key-line : {limits : Limits} {s u : State} {x : Stream} {n used : ℕ} {xs : List Slot} (room : ℕ) → KeyLine limits s u → StreamReaches limits room x (scanning u n xs used)
+    → (k : ℕ) × StreamReaches limits room x (scanning u k [] used) × Listed u []
 on-key-line {limits} {s} {u} {n = n} {used = used} {xs = xs} room l r =
     let c = all-got (colon-uses limits s (l .at-colon) (l .required) (l .number) (l .mark) (l .first-gap) (l .colon) (l .candidate)) (l .first-step) in
     let none : Absents (l .value .keys) = rw (c .1) (l .alone (l .outside)) in

@@ -36,7 +36,7 @@ use Rattle.yaml_scan.specs.Steps.{unrolled-state}
 use Rattle.yaml_stream.specs.Stream.{Stream, after-news, begun, behind, broken, closing, first-of, fresh, give, least-records, possible, ready, scanning, stepped, too-many-wait, waits}
 use Rattle.yaml_stream.specs.Waits.{flat-length, waits-total}
 use Rattle.yaml_stream.specs.Alone.{Absents, absents-not}
-use Rattle.yaml_stream.specs.Waiting.{Reaches, here as from, then-give, then-step}
+use Rattle.yaml_stream.specs.Waiting.{StreamReaches, here as from, then-give, then-step}
 use Rattle.yaml_stream.specs.InList.{Listed, comma-listed, comma-stays, listed-few, listed-fewer, next-choice, not-crowded, scalar-listed, scalar-stays}
 use Rattle.yaml_stream.specs.OnKeyLine.{KeyLine}
 
@@ -380,15 +380,15 @@ fresh-sheet k words =
     (λ e. rw (e, fresh) (λ z. omega arith))
     (λ e. rw (e, sheet-plain k origin, fresh) (begun-sheet k words))
 
-reaches-sheet : (k words room : ℕ) {y : Stream} → Reaches standard room (fresh standard (sheet k) words) y → Sheet k y
+reaches-sheet : (k words room : ℕ) {y : Stream} → StreamReaches standard room (fresh standard (sheet k) words) y → Sheet k y
 reaches-sheet k words room from = fresh-sheet k words
 reaches-sheet k words room (then-step {y = y} r e) = stepped-sheet k room y (reaches-sheet k words room r) e
 reaches-sheet k words room (then-give {y = y} r) = give-sheet k y (reaches-sheet k words room r)
 
 -- however many seeds, words and bytes: in every stream that calls come to at most 4 tokens wait
-pub at-most-four : (k words room : ℕ) {s : State} {n used : ℕ} {xs : List Slot} → Reaches standard room (fresh standard (sheet k) words) (scanning s n xs used) → length (flat xs) ≤ 4
+pub at-most-four : (k words room : ℕ) {s : State} {n used : ℕ} {xs : List Slot} → StreamReaches standard room (fresh standard (sheet k) words) (scanning s n xs used) → length (flat xs) ≤ 4
 at-most-four k words room r = stage-few (reaches-sheet k words room r)
 
 -- and none is a 51
-pub no-51 : (k words room : ℕ) (m : Mark) → Reaches standard room (fresh standard (sheet k) words) (broken too-many-wait m) → ⊥
+pub no-51 : (k words room : ℕ) (m : Mark) → StreamReaches standard room (fresh standard (sheet k) words) (broken too-many-wait m) → ⊥
 no-51 k words room m r = reaches-sheet k words room r refl

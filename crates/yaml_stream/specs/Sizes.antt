@@ -12,7 +12,7 @@ use Rattle.yaml_scan.specs.declared.Limits.{Limits}
 use Rattle.yaml_scan.specs.State.{Event, State, put, put-before}
 use Rattle.yaml_scan.specs.Scan.{begin}
 use Rattle.yaml_scan.specs.Slots.{Slot, flat, note, slot, slots, tokens-of}
-use Rattle.yaml_scan.specs.Candidates.{Given, Placed, Sound, fresh, given, placed-append}
+use Rattle.yaml_scan.specs.Candidates.{GivenToken, Placed, Sound, fresh, given, placed-append}
 use Rattle.yaml_scan.specs.Runs.{step-news}
 use Rattle.yaml_scan.specs.Budget.{begin-sound, on-news}
 use Rattle.yaml_scan.specs.SlotLaws.{tokens-total, total}
@@ -73,7 +73,7 @@ total-append [] fs = omega arith
 total-append (put t ∷ es) fs = omega (arith, total-append es fs)
 total-append (put-before n ts ∷ es) fs = omega (arith, total-append es fs)
 
-tale-placed : (limits : Limits) (k : ℕ) (gs : List Given) (s : State) → Sound gs s → Placed gs (tale limits k s .events)
+tale-placed : (limits : Limits) (k : ℕ) (gs : List GivenToken) (s : State) → Sound gs s → Placed gs (tale limits k s .events)
 unfolding tale Placed
 tale-placed limits zero gs s h = tt
 tale-placed limits (suc k) gs s h =

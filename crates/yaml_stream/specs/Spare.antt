@@ -12,7 +12,7 @@ use Rattle.yaml_text.specs.Mark.{Place}
 use Rattle.yaml_text.specs.Refusal.{got}
 use Rattle.yaml_text.specs.Test.{by-pick, by-test, true-false}
 use Rattle.yaml_text.specs.All.{All, all-bind, all-both, all-need, holds}
-use Rattle.yaml_text.specs.PlaceLaws.{Fits, fits-left}
+use Rattle.yaml_text.specs.PlaceLaws.{FurtherOn, fits-left}
 use Rattle.yaml_lexeme.specs.Token.{Token}
 use Rattle.yaml_lexeme.specs.Fits.{skip-gap-fit}
 use Rattle.yaml_scan.specs.declared.Candidate.{Candidate}
@@ -26,7 +26,7 @@ use Rattle.yaml_scan.specs.State.{Event, News, State, allow, at-place, block-en
 use Rattle.yaml_scan.specs.Bracket.{closes-level}
 use Rattle.yaml_scan.specs.Choice.{choice}
 use Rattle.yaml_scan.specs.Scan.{step, to-next-token, unrolled}
-use Rattle.yaml_scan.specs.Runs.{Next, next-news}
+use Rattle.yaml_scan.specs.Runs.{TakesOrEnds, next-news}
 use Rattle.yaml_scan.specs.Moves.{Begins, Move, Moves, begins, closes, leaves, opens, parts, tells, uses}
 use Rattle.yaml_scan.specs.Steps.{next-moves, unrolled-blocks, unrolled-state}
 use Rattle.yaml_stream.specs.Waits.{or-false}
@@ -52,13 +52,13 @@ lapsed-fresh m (Possible required n k) =
     rw (e, lapse) (holds (inr (refl, ((λ o. true-false (sym (lt-ltb (k .line) (m .line) o) ∙ f .0)), ltb-false (k .index + 1024) (m .index) (f .1))))))
 
 pub record GapTo (s v : State) : Type 0 where
-  pub onward : Fits (s .place) (v .place)
+  pub onward : FurtherOn (s .place) (v .place)
   pub indents-are : v .indents ≡ s .indents
   pub levels-are : v .levels ≡ s .levels
   pub count-is : v .count ≡ s .count
   pub key : in-flow s ≡ false → (top-key (v .keys) ≡ Absent) ⊎ ((top-key (v .keys) ≡ top-key (s .keys)) × Fresh (mark-of v) (top-key (s .keys)))
 
-lapse-gap : (s : State) (p : Place) (leads a : Bool) → Fits (s .place) p → All State (GapTo s) (lapse-key (at-place p leads (allow a s)))
+lapse-gap : (s : State) (p : Place) (leads a : Bool) → FurtherOn (s .place) p → All State (GapTo s) (lapse-key (at-place p leads (allow a s)))
 unfolding lapse-key in-flow top-key
 lapse-gap s p leads b f =
     by-test (in-flow s)
@@ -82,7 +82,7 @@ gap-to s = all-bind _ (skip-gap-fit _ _ _ (mark-of s) (rest-of s)) (λ g f. laps
 
 -- to show something of every step
 pub step-within : {Q : News → Type 0} (limits : Limits) (s : State) → depth s ≤ limits .entries → 1 ≤ limits .entries
-    → ((v : State) → GapTo s v → (w : News) → Moves (unrolled-state v) w → Next [] (unrolled-state v) w → Opened limits (unrolled-state v) w
+    → ((v : State) → GapTo s v → (w : News) → Moves (unrolled-state v) w → TakesOrEnds [] (unrolled-state v) w → Opened limits (unrolled-state v) w
     → Q (preceded (block-ends (unrolled v .ended) (mark-of v)) w))
     → All News Q (step limits s)
 unfolding step
@@ -204,7 +204,7 @@ SpareOn limits (ends-with es) = Unit {0}
 pub step-spare : (limits : Limits) (s : State) → depth s ≤ limits .entries → 1 ≤ limits .entries → Spare limits s → All News (SpareOn limits) (step limits s)
 step-spare limits s d o h = step-within limits s d o by-news
   where
-    by-news : (v : State) → GapTo s v → (w : News) → Moves (unrolled-state v) w → Next [] (unrolled-state v) w → Opened limits (unrolled-state v) w
+    by-news : (v : State) → GapTo s v → (w : News) → Moves (unrolled-state v) w → TakesOrEnds [] (unrolled-state v) w → Opened limits (unrolled-state v) w
         → SpareOn limits (preceded (block-ends (unrolled v .ended) (mark-of v)) w)
     by-news v g (goes-on es t) m x p =
         let i : mark-of v .index < mark-of t .index = omega (arith, x .0, fits-left (x .1), x .1 .index-is) in

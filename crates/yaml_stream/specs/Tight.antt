@@ -33,7 +33,7 @@ use Rattle.yaml_scan.specs.Slots.{Slot, flat, note, slot, slots}
 use Rattle.yaml_scan.specs.SlotLaws.{total}
 use Rattle.yaml_scan.specs.Candidates.{OnlyPuts, only-append, only-ends, only-if, only-one}
 use Rattle.yaml_scan.specs.Budget.{on-news}
-use Rattle.yaml_scan.specs.Runs.{Next}
+use Rattle.yaml_scan.specs.Runs.{TakesOrEnds}
 use Rattle.yaml_scan.specs.Moves.{Move, Moves, begins, block-start, closes, leaves, opens, pair-end, parts, tells, uses}
 use Rattle.yaml_scan.specs.Steps.{Gapped, Takes, one-most, step-by, unrolled-blocks, unrolled-state}
 use Rattle.theorems.specs.Opened.{Built, Stays, outside}
@@ -44,7 +44,7 @@ use Rattle.yaml_stream.specs.Sizes.{total-append}
 use Rattle.yaml_stream.specs.Waits.{flat-length, waits-total}
 use Rattle.yaml_stream.specs.Depth.{depth}
 use Rattle.yaml_stream.specs.Totals.{blocks-depth, goes-in-length, not-both, total-ends, total-if, total-then}
-use Rattle.yaml_stream.specs.Waiting.{Held, Keeps, Reaches, few-before, fresh-keeps, here, not-false, reaches-keeps, then-give, then-step}
+use Rattle.yaml_stream.specs.Waiting.{Held, StreamKeeps, StreamReaches, few-before, fresh-keeps, here, not-false, reaches-keeps, then-give, then-step}
 use Rattle.yaml_stream.specs.Alone.{Absents, absents-not}
 use Rattle.yaml_stream.specs.Here.{levelled-alone}
 use Rattle.yaml_stream.specs.Opened.{Opened}
@@ -120,7 +120,7 @@ step-says limits s ys d o h = step-within limits s d o by-news
         let z = none-ends s v ys (k .1) (k .2) (k .3) h g (k .4) in
         inr (omega (arith, total-append (block-ends (unrolled v .ended) (mark-of v)) es, total-ends (unrolled v .ended) (mark-of v), k .0))
 
-    by-news : (v : State) → GapTo s v → (w : News) → Moves (unrolled-state v) w → Next [] (unrolled-state v) w → Opened limits (unrolled-state v) w
+    by-news : (v : State) → GapTo s v → (w : News) → Moves (unrolled-state v) w → TakesOrEnds [] (unrolled-state v) w → Opened limits (unrolled-state v) w
         → Says s (preceded (block-ends (unrolled v .ended) (mark-of v)) w)
     by-news v g (goes-on es t) m x p = by-move v es g (move-adds (unrolled-state v) (m .2))
     by-news v g (ends-with es) m x p =
@@ -236,7 +236,7 @@ scanned-tight limits room s n xs used o d h =
     (record { all = slots (h .all) es; stands = i .0 (h .all) (h .stands); spare = i .1 .0; thin = thin-waits n xs es (i .1 .1) (h .thin) }))
     (λ _ _. tt) (λ _ _. tt)
 
-stepped-tight : (limits : Limits) (room : ℕ) (x : Stream) → 1 ≤ limits .entries → Keeps limits x → Tightly limits x → Tightly limits (stepped limits room x)
+stepped-tight : (limits : Limits) (room : ℕ) (x : Stream) → 1 ≤ limits .entries → StreamKeeps limits x → Tightly limits x → Tightly limits (stepped limits room x)
 unfolding stepped
 stepped-tight limits room (scanning s n xs used) o k h = scanned-tight limits room s n xs used o (k .shallow) h
 stepped-tight limits room (closing xs) o k h = tt
@@ -278,7 +278,7 @@ fresh-tight limits bytes words =
     by-text (got cs) = begun-tight limits words cs
     by-text (refused k m) = tt
 
-reaches-tight : (limits : Limits) (room : ℕ) {x y : Stream} → 1 ≤ limits .entries → Keeps limits x → Tightly limits x → Reaches limits room x y → Tightly limits y
+reaches-tight : (limits : Limits) (room : ℕ) {x y : Stream} → 1 ≤ limits .entries → StreamKeeps limits x → Tightly limits x → StreamReaches limits room x y → Tightly limits y
 reaches-tight limits room o k h here = h
 reaches-tight limits room o k h (then-step {y = y} r e) = stepped-tight limits room y o (reaches-keeps limits room k r) (reaches-tight limits room o k h r)
 reaches-tight limits room o k h (then-give {y = y} r) = give-tight limits y (reaches-tight limits room o k h r)
@@ -317,7 +317,7 @@ tight-few limits s n used m xs es o c h k r (inl t) = by-spare (k .spare)
 
 module _ (limits : Limits) (bytes : List ℕ) (words room : ℕ) (some : 1 ≤ limits .entries) where
   -- behind a step
-  pub waiting-behind : {s : State} {n used : ℕ} {xs : List Slot} (m : ℕ) → suc (limits .entries) ≤ m → 3 ≤ m → Reaches limits room (fresh limits bytes words) (scanning s n xs used)
+  pub waiting-behind : {s : State} {n used : ℕ} {xs : List Slot} (m : ℕ) → suc (limits .entries) ≤ m → 3 ≤ m → StreamReaches limits room (fresh limits bytes words) (scanning s n xs used)
       → ready (scanning s n xs used) ≡ false → (es : List Event) (t : State) → step limits s ≡ got (goes-on es t) → length (flat (waits n xs es)) ≤ most-waiting + m
   waiting-behind {s = s} {n = n} {used = used} {xs = xs} m o c r e es t f =
       let h = reaches-keeps limits room (fresh-keeps limits bytes words) r in
@@ -325,7 +325,7 @@ module _ (limits : Limits) (bytes : List ℕ) (words room : ℕ) (some : 1 ≤ l
       tight-few limits s n used m xs es o c h k e (all-got (step-says limits s (k .all) (h .shallow) some (k .stands)) f)
 
   -- and behind the last
-  pub waiting-at-end : {s : State} {n used : ℕ} {xs : List Slot} (m : ℕ) → suc (limits .entries) ≤ m → 3 ≤ m → Reaches limits room (fresh limits bytes words) (scanning s n xs used)
+  pub waiting-at-end : {s : State} {n used : ℕ} {xs : List Slot} (m : ℕ) → suc (limits .entries) ≤ m → 3 ≤ m → StreamReaches limits room (fresh limits bytes words) (scanning s n xs used)
       → ready (scanning s n xs used) ≡ false → (es : List Event) → step limits s ≡ got (ends-with es) → length (flat (waits n xs es)) ≤ most-waiting + m
   waiting-at-end {s = s} {n = n} {used = used} {xs = xs} m o c r e es f =
       let h = reaches-keeps limits room (fresh-keeps limits bytes words) r in
@@ -333,11 +333,11 @@ module _ (limits : Limits) (bytes : List ℕ) (words room : ℕ) (some : 1 ≤ l
       tight-few limits s n used m xs es o c h k e (all-got (step-says limits s (k .all) (h .shallow) some (k .stands)) f)
 
 -- under 01's limits at most 4,352 wait
-pub standard-behind : (bytes : List ℕ) (words room : ℕ) {s : State} {n used : ℕ} {xs : List Slot} → Reaches standard room (fresh standard bytes words) (scanning s n xs used)
+pub standard-behind : (bytes : List ℕ) (words room : ℕ) {s : State} {n used : ℕ} {xs : List Slot} → StreamReaches standard room (fresh standard bytes words) (scanning s n xs used)
     → ready (scanning s n xs used) ≡ false → (es : List Event) (t : State) → step standard s ≡ got (goes-on es t) → length (flat (waits n xs es)) ≤ 4_352
 standard-behind bytes words room r e es t f = waiting-behind standard bytes words room (omega arith) 256 (omega arith) (omega arith) r e es t f
 
-pub standard-at-end : (bytes : List ℕ) (words room : ℕ) {s : State} {n used : ℕ} {xs : List Slot} → Reaches standard room (fresh standard bytes words) (scanning s n xs used)
+pub standard-at-end : (bytes : List ℕ) (words room : ℕ) {s : State} {n used : ℕ} {xs : List Slot} → StreamReaches standard room (fresh standard bytes words) (scanning s n xs used)
     → ready (scanning s n xs used) ≡ false → (es : List Event) → step standard s ≡ got (ends-with es) → length (flat (waits n xs es)) ≤ 4_352
 standard-at-end bytes words room r e es f = waiting-at-end standard bytes words room (omega arith) 256 (omega arith) (omega arith) r e es f
 

@@ -27,18 +27,18 @@ use Rattle.yaml_stream.specs.Stream.{Stream, after-news, begun, behind, 
 use Rattle.yaml_stream.specs.Kept.{From, step-keeps}
 use Rattle.yaml_stream.specs.Waits.{flat-length, from-next, waits-append, waits-length}
 use Rattle.yaml_stream.specs.Depth.{depth, step-shallow}
-use Rattle.yaml_stream.specs.Alone.{Absents, Holds, absents-not, holds-none, holds-possible, step-last}
+use Rattle.yaml_stream.specs.Alone.{Absents, IsFirstKey, absents-not, holds-none, holds-possible, step-last}
 use Rattle.yaml_stream.specs.Here.{Behind, Levelled, levelled-alone, step-behind, step-levelled}
 
 -- the only token that may be a key is the last that waits, and nothing goes in before it yet
-pub record Ahead (s : State) (n : ℕ) (xs : List Slot) : Type 0 where
+pub record OnlyLastKey (s : State) (n : ℕ) (xs : List Slot) : Type 0 where
   pub others : List Slot
   pub last : Token
   pub is : xs ≡ others ++ (slot last [] ∷ [])
   pub later : From (n + length others) (s .keys)
 
 abbrev pub Few : State → ℕ → List Slot → Type 0
-Few s n xs = (length (flat xs) ≤ most-waiting) ⊎ Ahead s n xs
+Few s n xs = (length (flat xs) ≤ most-waiting) ⊎ OnlyLastKey s n xs
 
 pub record Held (limits : Limits) (s : State) (n : ℕ) (xs : List Slot) : Type 0 where
   pub from : From n (s .keys)
@@ -48,10 +48,10 @@ pub record Held (limits : Limits) (s : State) (n : ℕ) (xs : List Slot) : Type 
   pub levelled : Levelled (s .keys) (s .levels)
   pub few : Few s n xs
 
-abbrev pub Keeps : Limits → Stream → Type 0
-Keeps limits (scanning s n xs used) = Held limits s n xs
-Keeps limits (closing xs) = Unit {0}
-Keeps limits (broken k m) = Unit {0}
+abbrev pub StreamKeeps : Limits → Stream → Type 0
+StreamKeeps limits (scanning s n xs used) = Held limits s n xs
+StreamKeeps limits (closing xs) = Unit {0}
+StreamKeeps limits (broken k m) = Unit {0}
 
 -- before a step
 
@@ -86,11 +86,11 @@ few-before {s = s} {n = n} {xs = xs} used h r = by-slots xs refl
     by-slots (y ∷ ys) e = by-few (not-false (possible n (s .keys)) (rw e at r)) (h .few)
 
 -- the first waiting token is a candidate, or none waits
-pub holds-before : {limits : Limits} {s : State} {n : ℕ} {xs : List Slot} (used : ℕ) → Held limits s n xs → ready (scanning s n xs used) ≡ false → Holds n (s .keys)
+pub holds-before : {limits : Limits} {s : State} {n : ℕ} {xs : List Slot} (used : ℕ) → Held limits s n xs → ready (scanning s n xs used) ≡ false → IsFirstKey n (s .keys)
 unfolding ready
 holds-before {s = s} {n = n} {xs = xs} used h r = by-slots xs refl
   where
-    by-slots : (ys : List Slot) → xs ≡ ys → Holds n (s .keys)
+    by-slots : (ys : List Slot) → xs ≡ ys → IsFirstKey n (s .keys)
     by-slots [] e =
         let c = rw e at (h .counted) in
         let f : s .count ≡ n = omega arith in
@@ -106,7 +106,7 @@ not-crowded s n xs e p =
     (λ k. true-false (rw (k, p) at e))
     (λ k. ltb-false most-waiting (length (flat xs)) k)
 
-behind-keeps : (limits : Limits) (room : ℕ) (s : State) (n : ℕ) (xs : List Slot) (used : ℕ) → (crowded s n xs ≡ false → Held limits s n xs) → Keeps limits (behind room s n xs used)
+behind-keeps : (limits : Limits) (room : ℕ) (s : State) (n : ℕ) (xs : List Slot) (used : ℕ) → (crowded s n xs ≡ false → Held limits s n xs) → StreamKeeps limits (behind room s n xs used)
 unfolding behind
 behind-keeps limits room s n xs used h =
     by-test (ltb room used)
@@ -124,9 +124,9 @@ unfolding waits slots
 waits-then n xs es front last e = ap (λ (fs : List Event). waits n xs fs) e ∙ waits-append n xs front (put last ∷ [])
 
 scanned-keeps : (limits : Limits) (room : ℕ) (s : State) (n : ℕ) (xs : List Slot) (used : ℕ) → Held limits s n xs → ready (scanning s n xs used) ≡ false
-    → Keeps limits (after-news room n xs used (step limits s))
+    → StreamKeeps limits (after-news room n xs used (step limits s))
 scanned-keeps limits room s n xs used h r =
-    on-news (λ w. Keeps limits (after-news room n xs used w))
+    on-news (λ w. StreamKeeps limits (after-news room n xs used w))
     (all-both (step-keeps n limits s (omega (arith, h .counted)) (h .from)) (all-both (step-last n limits s) (all-both (step-shallow limits s (h .shallow)) (step-levelled limits s (h .levelled)))))
     (λ es t i.
     let k = i .1 .0 in
@@ -142,7 +142,7 @@ scanned-keeps limits room s n xs used h r =
     }))
     (λ _ _. tt) (λ _ _. tt)
 
-pub stepped-keeps : (limits : Limits) (room : ℕ) (x : Stream) → Keeps limits x → ready x ≡ false → Keeps limits (stepped limits room x)
+pub stepped-keeps : (limits : Limits) (room : ℕ) (x : Stream) → StreamKeeps limits x → ready x ≡ false → StreamKeeps limits (stepped limits room x)
 unfolding stepped
 stepped-keeps limits room (scanning s n xs used) h r = scanned-keeps limits room s n xs used h r
 stepped-keeps limits room (closing xs) h r = tt
@@ -178,19 +178,19 @@ few-part s n t b bs xs (inr a) = by-others (a .others) (a .is) (a .later)
         inr (record { others = slot t bs ∷ ys; last = a .last; is = ap (λ (zs : List Slot). slot t bs ∷ zs) g; later = f })
 
 first-keeps : (limits : Limits) (s : State) (n : ℕ) (bs : List Token) (t : Token) (xs : List Slot) (used : ℕ) → Held limits s n (slot t bs ∷ xs) → possible n (s .keys) ≡ false
-    → Keeps limits (first-of (λ k ys. scanning s k ys used) n bs t xs .stream)
+    → StreamKeeps limits (first-of (λ k ys. scanning s k ys used) n bs t xs .stream)
 unfolding first-of
 first-keeps limits s n [] t xs used h e =
     record { from = from-next n (s .keys) (h .from) e; counted = omega (arith, h .counted); falls = h .falls; shallow = h .shallow; levelled = h .levelled; few = few-given s n t xs (h .few) }
 first-keeps limits s n (b ∷ bs) t xs used h e =
     record { from = h .from; counted = h .counted; falls = h .falls; shallow = h .shallow; levelled = h .levelled; few = few-part s n t b bs xs (h .few) }
 
-first-closes : (limits : Limits) (bs : List Token) (t : Token) (xs : List Slot) → Keeps limits (first-of (λ _ ys. closing ys) 0 bs t xs .stream)
+first-closes : (limits : Limits) (bs : List Token) (t : Token) (xs : List Slot) → StreamKeeps limits (first-of (λ _ ys. closing ys) 0 bs t xs .stream)
 unfolding first-of
 first-closes limits [] t xs = tt
 first-closes limits (b ∷ bs) t xs = tt
 
-pub give-keeps : (limits : Limits) (x : Stream) → Keeps limits x → Keeps limits (give x .stream)
+pub give-keeps : (limits : Limits) (x : Stream) → StreamKeeps limits x → StreamKeeps limits (give x .stream)
 unfolding give
 give-keeps limits (scanning s n [] used) h = h
 give-keeps limits (scanning s n (x ∷ xs) used) h =
@@ -201,52 +201,52 @@ give-keeps limits (broken k m) h = tt
 
 -- a fresh state
 
-begun-keeps : (limits : Limits) (words : ℕ) (cs : List ℕ) → Keeps limits (begun words cs)
+begun-keeps : (limits : Limits) (words : ℕ) (cs : List ℕ) → StreamKeeps limits (begun words cs)
 unfolding begun flat
 begun-keeps limits words cs =
     by-test (ltb (words / record-words) least-records)
     (λ e. rw (e, begun) tt)
     (λ e. rw (e, begun) (record { from = tt; counted = refl; falls = tt; shallow = omega arith; levelled = refl; few = inl (omega arith) }))
 
-pub fresh-keeps : (limits : Limits) (bytes : List ℕ) (words : ℕ) → Keeps limits (fresh limits bytes words)
+pub fresh-keeps : (limits : Limits) (bytes : List ℕ) (words : ℕ) → StreamKeeps limits (fresh limits bytes words)
 unfolding fresh
 fresh-keeps limits bytes words =
     by-test (ltb (limits .bytes) (length bytes)) (λ e. rw (e, fresh) tt) (λ e. rw (e, fresh) (by-text (decode 0 origin bytes)))
   where
-    by-text : (r : Read (List ℕ)) → Keeps limits (elim r [ got cs ↦ begun words cs | refused k m ↦ broken k m ])
+    by-text : (r : Read (List ℕ)) → StreamKeeps limits (elim r [ got cs ↦ begun words cs | refused k m ↦ broken k m ])
     by-text (got cs) = begun-keeps limits words cs
     by-text (refused k m) = tt
 
 -- the streams that calls come to, within them too: a step where the first waiting token is none yet, or a possible key; else a token is given
-pub data Reaches (limits : Limits) (room : ℕ) (x : Stream) : Stream → Type 0 where
-  here : Reaches limits room x x
-  then-step : {y : Stream} → Reaches limits room x y → ready y ≡ false → Reaches limits room x (stepped limits room y)
-  then-give : {y : Stream} → Reaches limits room x y → Reaches limits room x (give y .stream)
+pub data StreamReaches (limits : Limits) (room : ℕ) (x : Stream) : Stream → Type 0 where
+  here : StreamReaches limits room x x
+  then-step : {y : Stream} → StreamReaches limits room x y → ready y ≡ false → StreamReaches limits room x (stepped limits room y)
+  then-give : {y : Stream} → StreamReaches limits room x y → StreamReaches limits room x (give y .stream)
 
-pub reaches-keeps : (limits : Limits) (room : ℕ) {x y : Stream} → Keeps limits x → Reaches limits room x y → Keeps limits y
+pub reaches-keeps : (limits : Limits) (room : ℕ) {x y : Stream} → StreamKeeps limits x → StreamReaches limits room x y → StreamKeeps limits y
 reaches-keeps limits room h here = h
 reaches-keeps limits room h (then-step {y = y} r e) = stepped-keeps limits room y (reaches-keeps limits room h r) e
 reaches-keeps limits room h (then-give {y = y} r) = give-keeps limits y (reaches-keeps limits room h r)
 
 -- a call is such steps and then a gift
-pub sought-reaches : (limits : Limits) (room k : ℕ) {x : Stream} (y : Stream) → Reaches limits room x y → Reaches limits room x (sought limits room k y)
+pub sought-reaches : (limits : Limits) (room k : ℕ) {x : Stream} (y : Stream) → StreamReaches limits room x y → StreamReaches limits room x (sought limits room k y)
 unfolding sought
 sought-reaches limits room zero y r = r
 sought-reaches limits room (suc k) y r =
     by-test (ready y) (λ e. rw (e, sought) r) (λ e. rw (e, sought) (sought-reaches limits room k (stepped limits room y) (then-step r e)))
 
-pub call-reaches : (limits : Limits) (room : ℕ) {x : Stream} (y : Stream) → Reaches limits room x y → Reaches limits room x (call limits room y .stream)
+pub call-reaches : (limits : Limits) (room : ℕ) {x : Stream} (y : Stream) → StreamReaches limits room x y → StreamReaches limits room x (call limits room y .stream)
 unfolding call
 call-reaches limits room y r = then-give (sought-reaches limits room (budget y) y r)
 
 -- before each scanning step at most 4,096 tokens wait
 pub waiting-before : (limits : Limits) (bytes : List ℕ) (words room : ℕ) {s : State} {n used : ℕ} {xs : List Slot}
-    → Reaches limits room (fresh limits bytes words) (scanning s n xs used) → ready (scanning s n xs used) ≡ false → length (flat xs) ≤ most-waiting
+    → StreamReaches limits room (fresh limits bytes words) (scanning s n xs used) → ready (scanning s n xs used) ≡ false → length (flat xs) ≤ most-waiting
 waiting-before limits bytes words room {used = used} r e = few-before used (reaches-keeps limits room (fresh-keeps limits bytes words) r) e
 
 -- where 51 is answered, the current mark is the end of the token that the step scanned
 pub crowded-mark : (limits : Limits) (bytes : List ℕ) (words room : ℕ) {s : State} {n used : ℕ} {xs : List Slot}
-    → Reaches limits room (fresh limits bytes words) (scanning s n xs used) → (es : List Event) (t : State) → step limits s ≡ got (goes-on es t)
+    → StreamReaches limits room (fresh limits bytes words) (scanning s n xs used) → (es : List Event) (t : State) → step limits s ≡ got (goes-on es t)
     → crowded t n (waits n xs es) ≡ true → (fs : List Event) × (k : Token) × (es ≡ fs ++ (put k ∷ [])) × (k .end ≡ mark-of t)
 unfolding crowded
 crowded-mark limits bytes words room {s = s} {n = n} {xs = xs} r es t e c =

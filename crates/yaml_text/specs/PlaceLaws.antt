@@ -20,7 +20,7 @@ abbrev pub left : Place → ℕ
 left p = length (p .rest)
 
 -- q is the place p, or a place further on in the same text
-pub record Fits (p q : Place) : Type 0 where
+pub record FurtherOn (p q : Place) : Type 0 where
   -- how many characters further
   pub taken : ℕ
   pub within : taken ≤ left p
@@ -29,10 +29,10 @@ pub record Fits (p q : Place) : Type 0 where
   pub line-on : p .mark .line ≤ q .mark .line
   pub col-on : q .mark .line ≡ p .mark .line → p .mark .col ≤ q .mark .col
 
-pub fits-refl : (p : Place) → Fits p p
+pub fits-refl : (p : Place) → FurtherOn p p
 fits-refl p = record { taken = 0; within = omega arith; rest-is = refl; index-is = omega arith; line-on = le-refl _; col-on = λ _. le-refl _ }
 
-pub fits-trans : {p q r : Place} → Fits p q → Fits q r → Fits p r
+pub fits-trans : {p q r : Place} → FurtherOn p q → FurtherOn q r → FurtherOn p r
 fits-trans {p} {q} {r} f g =
     let e : left q ≡ left p - f .taken = rw (f .rest-is, length-drop (f .taken) (p .rest)) in
     record {
@@ -45,22 +45,22 @@ fits-trans {p} {q} {r} f g =
     }
 
 -- what is left and what was taken are all that was there
-pub fits-left : {p q : Place} (f : Fits p q) → left q + f .taken ≡ left p
+pub fits-left : {p q : Place} (f : FurtherOn p q) → left q + f .taken ≡ left p
 fits-left {p} {q} f =
     let e : left q ≡ left p - f .taken = rw (f .rest-is, length-drop (f .taken) (p .rest)) in
     let h = f .within in
     omega arith
 
 -- so the text ends at the same index
-pub fits-end : {p q : Place} → Fits p q → q .mark .index + left q ≡ p .mark .index + left p
+pub fits-end : {p q : Place} → FurtherOn p q → q .mark .index + left q ≡ p .mark .index + left p
 fits-end f = let e = fits-left f in omega arith
 
-pub fits-no-nul : {p q : Place} → Fits p q → NoNul (p .rest) → NoNul (q .rest)
+pub fits-no-nul : {p q : Place} → FurtherOn p q → NoNul (p .rest) → NoNul (q .rest)
 fits-no-nul {p} f h = rw (f .rest-is) (no-nul-drop (f .taken) (p .rest) h)
 
 -- behind one character
 fits-next : {m m' : Mark} {q : Place} (c : ℕ) (cs : List ℕ) → m' .index ≡ m .index + 1 → m .line ≤ m' .line → (m' .line ≡ m .line → m .col ≤ m' .col)
-    → Fits (here m' cs) q → Fits (here m (c ∷ cs)) q
+    → FurtherOn (here m' cs) q → FurtherOn (here m (c ∷ cs)) q
 fits-next c cs e l k f =
     record {
       taken = suc (f .taken);
@@ -71,10 +71,10 @@ fits-next c cs e l k f =
       col-on = λ same. omega (arith, k (omega arith), f .col-on (omega arith));
     }
 
-pub fits-along : (m : Mark) (c : ℕ) (cs : List ℕ) {q : Place} → Fits (here (along m) cs) q → Fits (here m (c ∷ cs)) q
+pub fits-along : (m : Mark) (c : ℕ) (cs : List ℕ) {q : Place} → FurtherOn (here (along m) cs) q → FurtherOn (here m (c ∷ cs)) q
 fits-along m c cs f = fits-next c cs refl (le-refl _) (λ _. omega arith) f
 
-pub fits-over : (m : Mark) (c d : ℕ) (cs : List ℕ) {q : Place} → Fits (here (over m c d) cs) q → Fits (here m (c ∷ cs)) q
+pub fits-over : (m : Mark) (c d : ℕ) (cs : List ℕ) {q : Place} → FurtherOn (here (over m c d) cs) q → FurtherOn (here m (c ∷ cs)) q
 unfolding over
 fits-over m c d cs f =
     by-test (half-break c d)
@@ -90,16 +90,16 @@ there f (c ∷ cs) zero z e = omega arith
 there f (c ∷ cs) (suc i) z e = let h = there f cs i z e in omega arith
 
 -- n characters on
-pub skip-fit : (n : ℕ) (p : Place) → n ≤ left p → Fits p (skip-by n p)
+pub skip-fit : (n : ℕ) (p : Place) → n ≤ left p → FurtherOn p (skip-by n p)
 skip-fit n p h = record { taken = n; within = h; rest-is = refl; index-is = refl; line-on = le-refl _; col-on = λ _. omega arith }
 
 -- a places on, and b more
-pub skip-on : (a b : ℕ) (p : Place) → a + b ≤ left p → Fits (skip-by a p) (skip-by (a + b) p)
+pub skip-on : (a b : ℕ) (p : Place) → a + b ≤ left p → FurtherOn (skip-by a p) (skip-by (a + b) p)
 skip-on a b p h =
     let e = length-drop a (p .rest) in
     record { taken = b; within = omega arith; rest-is = sym (drop-drop b a (p .rest)); index-is = omega arith; line-on = le-refl _; col-on = λ _. omega arith }
 
-break-fit : (n : ℕ) (p : Place) → n ≤ left p → Fits p (here (new-line n (p .mark)) (drop n (p .rest)))
+break-fit : (n : ℕ) (p : Place) → n ≤ left p → FurtherOn p (here (new-line n (p .mark)) (drop n (p .rest)))
 break-fit n p h = record { taken = n; within = h; rest-is = refl; index-is = refl; line-on = omega arith; col-on = λ same. absurd (omega arith) }
 
 -- a break that stands here is there
@@ -112,11 +112,11 @@ break-there cs =
     (λ f. rw (e, f) (there is-break cs 0 refl f))
     (λ f. rw (e, f) (omega arith)))
 
-pub skip-break-fit : (p : Place) → Fits p (skip-break p)
+pub skip-break-fit : (p : Place) → FurtherOn p (skip-break p)
 unfolding skip-break
 skip-break-fit p =
     let n = break-length (p .rest) in
-    by-pick (Fits p) (eqb n 0) p (here (new-line n (p .mark)) (drop n (p .rest))) (fits-refl p) (break-fit n p (break-there (p .rest)))
+    by-pick (FurtherOn p) (eqb n 0) p (here (new-line n (p .mark)) (drop n (p .rest))) (fits-refl p) (break-fit n p (break-there (p .rest)))
 
 -- past a break the line is over
 pub skip-break-line : (p : Place) → is-break (look p) ≡ true → p .mark .line < skip-break p .mark .line
@@ -126,7 +126,7 @@ skip-break-line p e =
     (λ f. rw f (omega arith))
     (λ f. rw (f, e) (omega arith))
 
-pub run-of-fit : (f : ℕ → Bool) (m : Mark) (cs : List ℕ) → Fits (here m cs) (run-of f m cs .place)
+pub run-of-fit : (f : ℕ → Bool) (m : Mark) (cs : List ℕ) → FurtherOn (here m cs) (run-of f m cs .place)
 unfolding run-of
 run-of-fit f m [] = fits-refl _
 run-of-fit f m (c ∷ cs) =

@@ -4,7 +4,7 @@ use borrow.Author.Needs.{needs}
 use Rattle.yaml_text.specs.Mark.{skip-by}
 use Rattle.yaml_scan.specs.Document.{after-marker}
 use Rattle.chars.specs.View.{Moves, view}
-use Rattle.reading.specs.Reading.{Reaches}
+use Rattle.reading.specs.Reading.{ReachesAs}
 use Rattle.documents.proofs.Marker.{behind-marker, marker-flow, marker-goes, marker-moves, marker-refused}
 use Rattle.documents.proofs.fetch_document_indicator.Statement.{statement}
 use Rattle.documents.proofs.fetch_document_indicator.Tie as tie
@@ -16,7 +16,7 @@ behind c = marker-moves (c .before .before .before .before .before .before .befo
 
 read : (c : tie.After-after-marker)
     → let a = c .before .before .before .before .before .before .before .before .args in
-    Reaches (now (a .text)) (behind-marker (a .s .place)) (c .after-marker .result) (after-marker (a .starts) (view (now (a .text)) (behind-marker (a .s .place))))
+    ReachesAs (now (a .text)) (behind-marker (a .s .place)) (c .after-marker .result) (after-marker (a .starts) (view (now (a .text)) (behind-marker (a .s .place))))
 read c = rw (c .before .skip-n-non-blank .ensures) at (c .after-marker .ensures)
 
 refuse-requires : tie.Need-refuse-requires

@@ -8,7 +8,7 @@ use borrow.Author.Needs.{needs}
 use Rattle.yaml_text.specs.PlaceLaws.{left}
 use Rattle.chars.specs.View.{view}
 use Rattle.stacks.specs.Stack.{stack-words}
-use Rattle.driver.proofs.Leaving.{Kept}
+use Rattle.driver.proofs.Leaving.{LengthsKept}
 use Rattle.driver.proofs.Looping.{Asking, Looping, asking-asks, asking-holds, asking-on, asking-pauses, asking-room, asking-stops, asking-until, kept-on, looping-asks, looping-ends, looping-gives, looping-holds, looping-less, looping-start, looping-stops}
 use Rattle.driver.proofs.all_steps.Statement.{statement}
 use Rattle.driver.proofs.all_steps.Tie as tie
@@ -26,7 +26,7 @@ front f = f .one-step .last .1 .1 .1 .1 .1 .0
 kept-then : (f : tie.After-one-step Inv-loop μ-loop)
     → let a = f .before .before .before .before .before .before .before .before .before .before .before .before .before .before .before .before .before .args in
     let l = f .one-step .last .1 .1 .1 .1 .1 .1 in
-    Kept (now (a .held)) (now (a .words)) (now (a .bytes)) (front f ++ drop stack-words (f .before .before .before .before .loop .held)) (l .0) (l .1 .0)
+    LengthsKept (now (a .held)) (now (a .words)) (now (a .bytes)) (front f ++ drop stack-words (f .before .before .before .before .loop .held)) (l .0) (l .1 .0)
 kept-then f = let kept = f .one-step .kept .1 .1 .1 .1 .1 in kept-on (f .before .before .before .before .loop .inv) (front f) (kept .0) (kept .1 .0) (kept .1 .1 .0)
 
 -- it goes on

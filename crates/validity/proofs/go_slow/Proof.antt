@@ -5,13 +5,13 @@ use native.Mathlib.Omega.{arith}
 use lib.ListN.{length}
 use denote.Ref.{now}
 use borrow.Author.Needs.{needs}
-use Rattle.validity.specs.Sound.{Goes, onto, past, stops}
-use Rattle.validity.proofs.Soundness.{Next, next}
+use Rattle.validity.specs.Sound.{PassesTo, onto, past, stops}
+use Rattle.validity.proofs.Soundness.{PassStep, next}
 use Rattle.validity.proofs.go_slow.Statement.{statement}
 use Rattle.validity.proofs.go_slow.Tie as tie
 
 abbrev Inv-loop : tie.InvT-loop
-Inv-loop s at upto i₀ i = (i ≤ length s) × ((r : ℕ) → Goes s upto i r → Goes s upto at r)
+Inv-loop s at upto i₀ i = (i ≤ length s) × ((r : ℕ) → PassesTo s upto i r → PassesTo s upto at r)
 
 abbrev μ-loop : tie.MeasureT-loop
 μ-loop s at upto i₀ i = length s - i
@@ -20,7 +20,7 @@ abbrev μ-loop : tie.MeasureT-loop
 abbrev S : tie.At-loop Inv-loop μ-loop → List ℕ
 S l = now (l .before .before .args .s)
 
-step : (c : tie.Else1 Inv-loop μ-loop) → Next (S (c .before .before .before)) (c .before .before .before .loop .i) (c .before .char-len .result)
+step : (c : tie.Else1 Inv-loop μ-loop) → PassStep (S (c .before .before .before)) (c .before .before .before .loop .i) (c .before .char-len .result)
 step c =
     next (S (c .before .before .before)) (c .before .before .before .loop .i) (c .before .char-len .result) (c .before .before .before .loop .inv .0) (c .before .char-len .ensures) (c .if1 .left)
 

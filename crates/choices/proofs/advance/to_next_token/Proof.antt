@@ -1,4 +1,5 @@
 -- The gap is refused before a word is written, and a refused lapse writes none; else the definition's state is the one behind the gap, lapsed and unrolled.
+use native.Mathlib.Omega.{arith}
 use denote.Ref.{now}
 use borrow.Author.Needs.{needs}
 use Rattle.gaps.specs.declared.Gapped.the-variants.{Got}
@@ -41,7 +42,11 @@ enum-told : tie.Need-enum-told
 enum-told c = search needs
 
 unrolled-requires : tie.Need-unrolled-requires
-unrolled-requires c κs = rw (c .before .before .before .before .before .before .before .moved .ensures) (let w = skipped (c .before .before .before .before .before .before .before .before) .onward .0 in search needs)
+unrolled-requires c κs =
+    let k = c .before .before .before .before .before .before .before .before in
+    let p = k .before .before .before .before .before .before .before .pre in
+    let w = skipped k .onward .0 in
+    rw (c .before .before .before .before .before .before .before .moved .ensures) (record { deep = omega (arith, p .low .deep, p .lent .entries-most); indent = p .low .indent }, search needs, search needs)
 
 with-indents-requires : tie.Need-with-indents-requires
 with-indents-requires c κs = search needs

@@ -2,12 +2,12 @@
 use mathlib.Core.Path.{_∙_, sym}
 use denote.Ref.{now}
 use borrow.Author.Needs.{needs}
-use Rattle.choices.proofs.Laws.{Passed, at-bom, at-directive, at-end, at-indicator, at-marker, below-indent}
+use Rattle.choices.proofs.Laws.{NoMarkerHere, at-bom, at-directive, at-end, at-indicator, at-marker, below-indent}
 use Rattle.choices.proofs.choice.choice.Statement.{statement}
 use Rattle.choices.proofs.choice.choice.Tie as tie
 
 -- behind the tests for the end and for a marker
-passed : (c : tie.Else2) → let a = c .before .before .before .before .before .args in Passed (now (a .text)) (a .s) (c .before .before .before .look .result)
+passed : (c : tie.Else2) → let a = c .before .before .before .before .before .args in NoMarkerHere (now (a .text)) (a .s) (c .before .before .before .look .result)
 passed c = record { is = c .before .before .before .look .ensures; some = c .before .before .if1 .left; no-marker = sym (c .before .is-marker .ensures) ∙ c .if2 .left }
 
 look-requires : tie.Need-look-requires

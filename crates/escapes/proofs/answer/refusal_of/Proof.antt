@@ -1,4 +1,4 @@
--- `escapes::answer::refusal_of` meets its contract: one clause of the definition for each arm.
+-- One clause of the definition for each arm.
 use borrow.Author.Needs.{needs}
 use Rattle.escapes.proofs.answer.refusal_of.Statement.{statement}
 use Rattle.escapes.proofs.answer.refusal_of.Tie as tie

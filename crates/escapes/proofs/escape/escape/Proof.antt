@@ -1,4 +1,4 @@
--- `escapes::escape::escape` meets its contract: each way out is what the definition makes of the letter behind the backslash.
+-- Each way out is what the definition makes of the letter behind the backslash.
 use Prim.Native.Nat.{_+_, _<_, ℕ}
 use mathlib.Core.List.{List}
 use mathlib.Core.Path.{_∙_, _≡_, ap, subst, sym}

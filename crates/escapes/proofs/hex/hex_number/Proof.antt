@@ -1,4 +1,4 @@
--- `escapes::hex::hex_number` meets its contract: the invariant: the digits so far and those that are left make the whole number.
+-- Invariant: the digits so far and those that are left make the whole number.
 use Prim.Native.Nat.{_*_, _+_, _-_, _^_, _≤_}
 use mathlib.Core.Bool.{true}
 use mathlib.Core.Path.{_∙_, _≡_, sym}

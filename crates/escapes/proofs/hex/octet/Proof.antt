@@ -1,4 +1,4 @@
--- `escapes::hex::octet` meets its contract: the octet behind a percent sign is a number of two digits.
+-- The octet behind a percent sign is a number of two digits.
 use denote.Ref.{now}
 use borrow.Author.Needs.{needs}
 use Rattle.chars.specs.Bytes.{CharAt, eq-char}

@@ -1,4 +1,4 @@
--- `escapes::percent::percent` meets its contract: each way out is one case of what the first octet leads.
+-- Each way out is one case of what the first octet leads.
 use Prim.Native.Nat.{_+_, _-_, ℕ}
 use mathlib.Core.List.{List, _∷_}
 use mathlib.Core.Path.{_∙_, _≡_, ap, subst, sym}

@@ -1,4 +1,4 @@
--- `escapes::percent::trailing` meets its contract: the invariant: the octets that were read, with those that are left, are all of them.
+-- Invariant: the octets that were read, with those that are left, are all of them.
 use Prim.Native.Nat.{_*_, _+_, _-_}
 use mathlib.Core.Path.{_∙_, sym}
 use lib.ListN.{length}

@@ -1,13 +1,13 @@
--- Every field is copied, and the mark put together anew is the same.
+-- It is moved to its own place.
 use borrow.Author.Needs.{needs}
 use Rattle.states.proofs.State.anew.Statement.{statement}
 use Rattle.states.proofs.State.anew.Tie as tie
 
-anew-requires : tie.Need-anew-requires
-anew-requires c κs = search needs
+moved-requires : tie.Need-moved-requires
+moved-requires c κs = search needs
 
 returns : tie.Need-returns
-returns c = rw (c .anew .ensures)
+returns c = c .moved .ensures
 
 pub anew-spec : {M : Type 1} → statement M
-anew-spec = tie.close (tie.spec anew-requires returns)
+anew-spec = tie.close (tie.spec moved-requires returns)
