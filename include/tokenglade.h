@@ -34,15 +34,15 @@ void tokenglade_scan(const uint8_t *text, size_t text_len, uint32_t *words, size
 /* Words that tokenglade_next keeps from call to call: a state. All zero it is a fresh one. */
 #define TOKENGLADE_STATE 1809
 
-/* Words that it must be lent, for a text of any length: 4,400 records. Up to 4,096 tokens may wait there, and one step of the scan may bring some 256
-   more. */
+/* Words that it must be lent, for a text of any length: 4,400 records. Up to 4,096 tokens may wait there, one step of the scan may bring some 256
+   more, and up to 31 more are kept there that can be given at once. */
 #define TOKENGLADE_STREAM_WORDS ((size_t)4400 * TOKENGLADE_RECORD_WORDS)
 
 /* Gives the next token of a text, and returns in every case.
 
    Begin with a state of zeros. Zero it again to start anew, with the same text or another. What words and bytes hold at first does not matter.
    At each later call state, words and bytes must hold what the last call left there, the text must be the same, and so must the three lengths. All of
-   them may have moved to other addresses. Where a length changes, a larger one too, nothing is promised of what a call says; a refusal stays, 5 too.
+   them may have moved to other addresses. Where a length changes, a larger one too, nothing is promised of what a call says.
 
    A token: token is its record, answer is all zero. Its texts stand in bytes, at the offsets that the record has, and stay there. What stands in bytes
    behind the texts of the tokens given may be anything.
