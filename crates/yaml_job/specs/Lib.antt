@@ -1,0 +1,15 @@
+pub mod Job
+pub mod Open
+pub mod Shape
+pub mod Seen
+pub mod Reads
+pub mod Calls
+pub mod Last
+pub mod Done
+pub mod Exactly
+pub mod Refused
+pub mod NotDone
+pub mod Handed
+pub mod Examples
+pub mod OneList
+pub mod JobSheet
