@@ -1,4 +1,4 @@
-// What the examples in C share: a sheet is read, and tokens and refusals are printed.
+// What the examples in C share: a sheet is read, and tokens and refusals are printed. Inline is what not all of them use.
 #ifndef PRINT_H
 #define PRINT_H
 
@@ -28,7 +28,7 @@ static const char *named(const char *const *list, size_t count, uint32_t number)
 }
 
 // The text whose offset and length are the words at `w`.
-static void print_text(const uint32_t *w, const uint8_t *bytes, size_t bytes_len) {
+static inline void print_text(const uint32_t *w, const uint8_t *bytes, size_t bytes_len) {
     if (w[0] > bytes_len || w[1] > bytes_len - w[0]) {
         printf(" (outside the bytes)");
         return;
@@ -45,7 +45,7 @@ static void print_text(const uint32_t *w, const uint8_t *bytes, size_t bytes_len
 }
 
 // Columns are printed from 1, as editors count them.
-static void print_token(const uint32_t *w, const uint8_t *bytes, size_t bytes_len) {
+static inline void print_token(const uint32_t *w, const uint8_t *bytes, size_t bytes_len) {
     uint32_t kind = w[0];
     printf("%u:%u-%u:%u %s", w[2], w[3] + 1, w[5], w[6] + 1, NAMED(KINDS, kind));
     if (kind == 3)
@@ -59,7 +59,7 @@ static void print_token(const uint32_t *w, const uint8_t *bytes, size_t bytes_le
     putchar('\n');
 }
 
-static void print_refusal(const uint32_t *answer) {
+static inline void print_refusal(const uint32_t *answer) {
     printf("refused (%u) at line %u, column %u: %s\n", answer[0], answer[2], answer[3] + 1, NAMED(REFUSALS, answer[0]));
 }
 

@@ -1,4 +1,6 @@
-//! What the examples in Rust share: a sheet is read, and tokens are written as lines.
+//! What the examples in Rust share: a sheet is read, and tokens are written as lines. None of them uses all of it.
+#![allow(dead_code)]
+
 use std::collections::TryReserveError;
 use std::fs::File;
 use std::io::{self, BufWriter, Read, Write};

@@ -1,5 +1,6 @@
-//! Tokens of a YAML text, by the proved scanner behind `tokenglade_scan`, and one at a time behind `tokenglade_next`. include/tokenglade.h says what the
-//! two promise. To use this elsewhere take two files, this one and include/tokenglade_names.h (`NAMES` has its path), and link the static library.
+//! Tokens of a YAML text, by the proved scanner behind `tokenglade_scan`, and one at a time behind `tokenglade_next`; the seeds of a job sheet, behind
+//! `tokenglade_job`. include/tokenglade.h says what the three promise.
+//! To use this elsewhere take two files, this one and include/tokenglade_names.h (`NAMES` has its path), and link the static library.
 use std::marker::PhantomData;
 
 extern "C" {
@@ -23,6 +24,17 @@ extern "C" {
         token: *mut u32,
         answer: *mut u32,
     );
+    fn tokenglade_job(
+        state: *mut u32,
+        text: *const u8,
+        text_len: usize,
+        words: *mut u32,
+        words_len: usize,
+        bytes: *mut u8,
+        bytes_len: usize,
+        seed: *mut u32,
+        closing: *mut u32,
+    );
 }
 
 /// Words in a record.
@@ -31,7 +43,14 @@ pub const RECORD_WORDS: usize = 12;
 /// Words of a state, which a stream keeps from token to token.
 const STATE_WORDS: usize = 1809;
 
-/// Words that a stream must be lent, for a text of any length.
+/// Words of a job's state.
+const JOB_WORDS: usize = 1820;
+
+/// Words that a seed comes in, and a closing record.
+const SEED_WORDS: usize = 2;
+const CLOSING_WORDS: usize = 7;
+
+/// Words that a stream or a job must be lent, for a text of any length.
 const STREAM_WORDS: usize = 4400 * RECORD_WORDS;
 
 /// Room that is always enough: words and bytes for a text. A byte that goes on with a character begins none.
@@ -40,7 +59,7 @@ pub fn room(text: &[u8]) -> (usize, usize) {
     ((2 * characters + 3) * RECORD_WORDS, 3 * text.len() / 2)
 }
 
-/// Room that is always enough for a stream: neither 5 nor 52 comes.
+/// Room that is always enough for a stream, and for a job: neither 5 nor 52 comes.
 pub fn stream_room(text: &[u8]) -> (usize, usize) {
     (STREAM_WORDS, 3 * text.len() / 2)
 }
@@ -223,6 +242,99 @@ impl<'a> Iterator for Stream<'a> {
 
 impl std::iter::FusedIterator for Stream<'_> {}
 
+/// A seed, and how many were handed over with it: 1 at the first.
+#[derive(Clone, Copy, Debug, PartialEq, Eq)]
+pub struct Seed {
+    pub value: u32,
+    pub count: u32,
+}
+
+/// Why a job is not done: a refusal's number and its mark. `count` seeds were handed over before; they stay valid. Where `number` is 0 nothing was refused,
+/// but the job was finished while a seed was left.
+#[derive(Clone, Copy, Debug, PartialEq, Eq)]
+pub struct NotDone {
+    pub number: u32,
+    pub mark: Mark,
+    pub count: u32,
+}
+
+/// The seeds of a job sheet, one at a time, in lent room of any length. Where the job is not done, that is the last item, so that nobody who forgets
+/// `finish` takes it for done. It is done where `finish` gives its count, and only there.
+///
+/// ```ignore
+/// let mut job = Job::new(text, &mut words, &mut bytes);
+/// for seed in &mut job {
+///     start(seed?.value);
+/// }
+/// let count = job.finish()?;
+/// ```
+#[must_use = "a job is read as its seeds are taken, and is done only where `finish` says so"]
+pub struct Job<'a> {
+    state: [u32; JOB_WORDS],
+    text: &'a [u8],
+    words: &'a mut [u32],
+    bytes: &'a mut [u8],
+    handed: u32,
+    closed: Option<Result<u32, NotDone>>,
+}
+
+impl<'a> Job<'a> {
+    pub fn new(text: &'a [u8], words: &'a mut [u32], bytes: &'a mut [u8]) -> Self {
+        Job { state: [0; JOB_WORDS], text, words, bytes, handed: 0, closed: None }
+    }
+
+    /// The count of its seeds, where the job is done and each of them was taken. A list may be empty: then it is 0. Where a seed is left, the job is not
+    /// done, whatever the sheet has behind it: nothing is read that nobody sees.
+    pub fn finish(mut self) -> Result<u32, NotDone> {
+        let left = NotDone { number: 0, mark: Mark { index: 0, line: 0, col: 0 }, count: self.handed };
+        // Who has taken the last seed need not have looked behind it.
+        if let Some(Ok(_)) = self.next() {
+            return Err(left);
+        }
+        self.closed.unwrap_or(Err(left))
+    }
+
+    fn call(&mut self) -> ([u32; SEED_WORDS], [u32; CLOSING_WORDS]) {
+        let (mut seed, mut closing) = ([0u32; SEED_WORDS], [0u32; CLOSING_WORDS]);
+        // Each part is lent with its own length, none overlaps another, and all are those of the call before.
+        unsafe {
+            tokenglade_job(
+                self.state.as_mut_ptr(),
+                self.text.as_ptr(),
+                self.text.len(),
+                self.words.as_mut_ptr(),
+                self.words.len(),
+                self.bytes.as_mut_ptr(),
+                self.bytes.len(),
+                seed.as_mut_ptr(),
+                closing.as_mut_ptr(),
+            );
+        }
+        (seed, closing)
+    }
+}
+
+impl Iterator for Job<'_> {
+    type Item = Result<Seed, NotDone>;
+
+    fn next(&mut self) -> Option<Self::Item> {
+        if self.closed.is_some() {
+            return None;
+        }
+        let ([value, running], closing) = self.call();
+        let [said, count, number, ..] = closing;
+        if said == 0 {
+            self.handed = running;
+            return Some(Ok(Seed { value, count: running }));
+        }
+        let closed = if said == 1 { Ok(count) } else { Err(NotDone { number, mark: mark(&closing[3..6]), count }) };
+        self.closed = Some(closed);
+        closed.err().map(Err)
+    }
+}
+
+impl std::iter::FusedIterator for Job<'_> {}
+
 const NAMES: &str = include_str!("../include/tokenglade_names.h");
 
 /// The words that the header has for a number: `TOKENGLADE_LIST(number, "words")`.
@@ -241,3 +353,16 @@ impl std::fmt::Display for Refusal {
 }
 
 impl std::error::Error for Refusal {}
+
+impl std::fmt::Display for NotDone {
+    fn fmt(&self, f: &mut std::fmt::Formatter) -> std::fmt::Result {
+        let NotDone { number, mark, count } = self;
+        if *number == 0 {
+            return write!(f, "not done: finished while seeds were left, behind {count}");
+        }
+        let words = named("REFUSAL", *number);
+        write!(f, "not done ({}) at line {}, column {}: {}; seeds before: {}", number, mark.line, mark.col + 1, words, count)
+    }
+}
+
+impl std::error::Error for NotDone {}

@@ -1,4 +1,4 @@
-/* Tokens of a YAML text, within lent room.
+/* Tokens of a YAML text, and the seeds of a job sheet, within lent room.
    A text is lent whole. It has at most 1,048,576 bytes: a longer one is refused, with number 1.
    tokenglade_names.h has words for kinds, styles and refusals; docs/RULES.md has the rules. */
 #ifndef TOKENGLADE_H
@@ -74,6 +74,52 @@ void tokenglade_scan(const uint8_t *text, size_t text_len, uint32_t *words, size
    It takes some 2 KB of stack, whatever the text, and no other memory. Threads may call it at the same time, each with a state, words, bytes, token and
    answer of its own; they may share the text. */
 void tokenglade_next(uint32_t state[TOKENGLADE_STATE], const uint8_t *text, size_t text_len, uint32_t *words, size_t words_len, uint8_t *bytes, size_t bytes_len, uint32_t token[TOKENGLADE_RECORD_WORDS], uint32_t answer[5]);
+
+/* The seeds of a job sheet, one at a time. */
+
+/* Words that tokenglade_job keeps from call to call: a state. All zero it is a fresh one. It is not a state of tokenglade_next. */
+#define TOKENGLADE_JOB_STATE 1820
+
+/* Hands over the next seed of a job sheet, or says how the job ended, and returns in every case.
+
+   A job sheet is one mapping with the fields sample, panel and seeds, each once, in any order. sample and panel hold one scalar each, of any style, empty
+   too. seeds holds a list in brackets of plain numbers from 0 to 4294967295: digits, without a leading zero but for 0 itself, with commas between; one more
+   comma may end the list. Names may be quoted. Comments and blank lines may stand wherever YAML has them. Nothing else has a place: no document marker,
+   directive or byte order mark, no anchor, tag or alias. Write it so, in block form, with the list on its key's line:
+       sample: S-17
+       panel: P-3
+       seeds: [1, 22, 333]
+   So written, the list never meets 51, however long it is. In braces ({sample: S-17, ..}) it can: the outer bracket counts as a possible key, no seed is
+   handed over before the whole of it was scanned, and from some 2,040 seeds on the answer is 51. A list on a line of its own, or behind "? seeds" and ':',
+   counts as a possible key itself, and gets 51 from 2,048 seeds on.
+
+   Begin with a state of zeros. Zero it again to start anew, with the same sheet or another. What words and bytes hold at first does not matter.
+   At each later call state, words and bytes must hold what the last call left there, the text must be the same, and so must the three lengths. All of
+   them may have moved to other addresses. words and bytes are lent as to tokenglade_next: TOKENGLADE_STREAM_WORDS (with fewer the answer is 52) and, always
+   enough, TOKENGLADE_BYTES(b) (5).
+
+   A seed: closing is all zero, seed[0] is the seed, seed[1] how many were handed over with it: 1 at the first.
+   Done: closing[0] is 1, closing[1] is the count of all seeds handed over, all else in closing and seed is 0. StreamEnd was reached, nothing was refused, and
+   each entry of the list was handed over. An empty list is a list: its job is done with count 0. Whoever must have a seed has to look at the count.
+   Not done: closing[0] is 2, closing[1] is the count of all seeds handed over, closing[2] is the refusal's number, closing[3] to closing[5] are the
+   index, line and column of its mark, seed is all zero. Seeds handed over before stay valid.
+   Done and not done come again at each later call. closing[6] is always 0; it is kept for a byte place.
+   A job is done when closing[0] was 1, and only then: that seeds came says nothing of those behind them.
+
+   The refusals are those of tokenglade_next, and 70 to 73, at the start of a token that it gave; whichever is met first is the one:
+   - 70: a field that is none of the three, or came before; at its name.
+   - 71: the text ends and a field is missing; at StreamEnd.
+   - 72: an entry of the list that is a scalar and no such number.
+   - 73: any other token that has no place where it stands; where a value is missing, at what stands there instead.
+
+   Whatever state, words, bytes and text hold, and whatever lengths they have, a call returns: nothing outside state, words, bytes, seed and closing is
+   written, and nothing outside them and text is read. But where they are not as said above, what it says may be anything: seeds without end, or done where
+   nothing is. closing[0] 2 with number 0 comes only there. It is no closing record, tells nothing of the job, and need not come again. A text of b bytes has
+   fewer than b seeds: stop there where a state may be damaged.
+   state, text, words, bytes, seed and closing must not overlap; a pointer may be anything where its length is 0.
+   It takes some 2 KB of stack, whatever the text, and no other memory. Threads may call it at the same time, each with a state, words, bytes, seed and
+   closing of its own; they may share the text. */
+void tokenglade_job(uint32_t state[TOKENGLADE_JOB_STATE], const uint8_t *text, size_t text_len, uint32_t *words, size_t words_len, uint8_t *bytes, size_t bytes_len, uint32_t seed[2], uint32_t closing[7]);
 
 #ifdef __cplusplus
 }

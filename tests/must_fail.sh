@@ -14,13 +14,16 @@ count=0
 # The checks with what they read. The library is there, and this script is not run again.
 fresh() {
     rm -rf "$copy"
-    mkdir -p "$copy"/crates/{replay,restream,records/src,driver/src,stream/src}
+    mkdir -p "$copy"/crates/{replay,restream,{records,driver,stream,job,shape,tokenglade}/src}
     cp -r "$tree"/{bench,docs,examples,include,tests,tools} "$copy/"
-    cp "$tree/crates/replay/stdout" "$copy/crates/replay/"
-    cp "$tree/crates/restream/stdout" "$copy/crates/restream/"
-    for f in records/src/lib.rt driver/src/held.rt stream/src/lib.rt; do cp "$tree/crates/$f" "$copy/crates/$f"; done
+    for f in {replay,restream}/stdout {records,stream,job,tokenglade}/src/lib.rt driver/src/held.rt job/src/own.rt shape/src/number.rt; do
+        cp "$tree/crates/$f" "$copy/crates/$f"
+    done
     printf '#!/bin/sh\nmkdir -p "$1" && cp "%s" "$1/"\n' "$library" > "$copy/bench/native.sh"
-    printf '#!/bin/sh\n' > "$copy/tests/must_fail.sh"
+    # the program has its own checks below
+    mkdir "$copy/program"
+    for f in tests/must_fail.sh tests/program.py program/build.sh; do printf '#!/bin/sh\n' > "$copy/$f"; done
+    chmod +x "$copy/program/build.sh"
     cd "$copy"
 }
 
@@ -73,7 +76,7 @@ damaged $vectors '2,$d' tests/run.sh 10
 damaged $vectors 'd' tests/run.sh 10
 damaged tests/must_fail.sh 's/.*/exit 1/' tests/run.sh 10
 damaged bench/native.sh 's/.*/exit 1/' tests/run.sh 10
-# a library that accepts every text with no token
+# a library that accepts every text with no token, and whose jobs are done
 cat > none.c <<'C'
 #include "tokenglade.h"
 void tokenglade_scan(const uint8_t *t, size_t n, uint32_t *w, size_t m, uint8_t *b, size_t k, uint32_t a[6]) {
@@ -87,6 +90,12 @@ void tokenglade_next(uint32_t *s, const uint8_t *t, size_t n, uint32_t *w, size_
         r[i] = 0;
     for (int i = 0; i < 5; i++)
         a[i] = 0;
+}
+void tokenglade_job(uint32_t *s, const uint8_t *t, size_t n, uint32_t *w, size_t m, uint8_t *b, size_t k, uint32_t *d, uint32_t *c) {
+    (void)s, (void)t, (void)n, (void)w, (void)m, (void)b, (void)k;
+    d[0] = d[1] = 0;
+    for (int i = 0; i < 7; i++)
+        c[i] = i == 0;
 }
 C
 passes "gcc -Iinclude -c none.c -o none.o && ar rcs libnone.a none.o"
@@ -108,6 +117,54 @@ done
 damaged $stream '$d' tests/run.sh 10
 damaged $stream '3s/E$/R 47 0 1 0/' tests/run.sh 10
 damaged tools/stream_model.py 's/> MOST_WAITING/>= MOST_WAITING/' tests/run.sh 10
+
+jobs=tests/vectors/jobs.txt
+passes "objcopy --redefine-sym tokenglade_job=real_job '$library' libreader.a"
+# a library whose job reader has a fault
+reading() {
+    passes "cp libreader.a libreading.a && gcc -Iinclude -DFAULT=$1 -c tests/job_faults.c && ar rs libreading.a job_faults.o"
+}
+reads="gcc -O2 -Iinclude tests/job.c -L. -lreading -o job-faulty && ./job-faulty 1 10 $jobs"
+reading 0
+passes $reads
+for fault in $(seq 30); do
+    reading $fault
+    fails $reads
+done
+said "closed before a seed"
+# what it is held against can have faults too
+against() {
+    fails "gcc -O2 -Iinclude $1 tests/job.c $2 -o job-faulty && ./job-faulty 1 10 $jobs"
+}
+against -DFAULT=1 "tests/stream_faults.c libreal.a"
+said "something else than by the one call's tokens"
+against -DFAULT=7 "tests/stream_faults.c libreal.a"
+said "more tokens than demand 3 allows"
+against -DFAULT=10 "tests/stream_faults.c libreal.a"
+said "no such refusal in room enough"
+cat > refusing.c <<'C'
+#include "tokenglade.h"
+void tokenglade_scan(const uint8_t *t, size_t n, uint32_t *w, size_t m, uint8_t *b, size_t k, uint32_t a[6]) {
+    (void)t, (void)n, (void)w, (void)m, (void)b, (void)k;
+    for (int i = 0; i < 6; i++)
+        a[i] = i == 0 ? 47 : i == 2;
+}
+C
+passes "objcopy --redefine-sym tokenglade_scan=real_scan '$library' librefusing.a && gcc -Iinclude -c refusing.c && ar rs librefusing.a refusing.o"
+against "" librefusing.a
+said "done, and the text is refused"
+damaged $jobs '$d' tests/run.sh 10
+damaged $jobs '3s/done 1$/done 2/' tests/run.sh 10
+damaged tools/job_model.py 's/> MOST_SEED/>= MOST_SEED/' tests/run.sh 10
+reading 31
+damaged bench/native.sh "s|cp .*|cp $copy/libreading.a \"\$1/libtokenglade.a\"|" tests/run.sh 10
+said "target/tests/jobs target/tests/modelled differ"
+# which vectors don't tell either
+damaged tools/stream_model.py 's/scanner.tokens\[-1\]\[2\]/scanner.mark()/' tests/run.sh 10
+said "target/tests/jobs target/tests/modelled differ"
+damaged tools/job_sheets.py 's/print(line(r))/pass/' tests/run.sh 10
+said "not 600 random job sheets"
+damaged tests/job_wrapper.rs 's/Ok(3)/Ok(4)/' tests/run.sh 10
 
 fuzz=target/tests/fuzz answers=target/tests/answers
 passes tests/run.sh 10
@@ -134,6 +191,15 @@ fails "echo c3a9 | $streamed"
 fails "echo c3a9 words=52800 bytes=2 | $streamed > /dev/full"
 fails target/tests/stream 1 10 nowhere
 fails "target/tests/stream 1 10 $stream > /dev/full"
+read_jobs=target/tests/job_answers
+passes "echo c3a9 words=52800 bytes=2 | $read_jobs"
+fails "echo c3a9 words=52800 | $read_jobs"
+fails "echo c3a9 | $read_jobs"
+fails "echo c3a9 words=52800 bytes=2 | $read_jobs > /dev/full"
+fails target/tests/job 1 10 nowhere
+fails "target/tests/job 1 10 $jobs > /dev/full"
+fails python3 tools/job_sheets.py 1
+fails python3 tools/job_sheets.py 1 ten
 
 passes python3 tools/constants.py
 fails python3 tools/constants.py 1
@@ -142,6 +208,40 @@ damaged include/tokenglade.h 's/4400/4399/' tests/run.sh 10
 damaged examples/tokenglade.rs 's/= 1809/= 1810/' python3 tools/constants.py
 damaged crates/stream/src/lib.rt 's/4_400/4_401/' python3 tools/constants.py
 damaged crates/records/src/lib.rt '/^pub const RECORD_WORDS/d' python3 tools/constants.py
+damaged include/tokenglade.h 's/JOB_STATE 1820/JOB_STATE 1821/' python3 tools/constants.py
+damaged include/tokenglade.h 's/closing\[7\])/closing[6])/' python3 tools/constants.py
+damaged include/tokenglade_names.h 's/4,294,967,295/4,294,967,296/' python3 tools/constants.py
+damaged examples/tokenglade.rs 's/= 1820/= 1819/' python3 tools/constants.py
+damaged examples/tokenglade.rs 's/SEED_WORDS: usize = 2/SEED_WORDS: usize = 3/' python3 tools/constants.py
+damaged crates/tokenglade/src/lib.rt 's/closing: &mut \[u32; 7\]/closing: \&mut [u32; 8]/' python3 tools/constants.py
+damaged crates/job/src/own.rt 's/OWN_WORDS: usize = 11/OWN_WORDS: usize = 12/' python3 tools/constants.py
+damaged crates/job/src/lib.rt 's/HELD_WORDS + OWN_WORDS/HELD_WORDS + MORE_WORDS/' python3 tools/constants.py
+said "MORE_WORDS is not known"
+
+# what the wrapper says of jobs, and what it lets nobody pass over
+wrapper="rustc --edition 2021 --crate-type rlib examples/tokenglade.rs -L target/tests -l static=tokenglade -o libtokenglade.rlib"
+uses() {
+    echo "$wrapper && rustc --edition 2021 -D unused_must_use $1 --extern tokenglade=libtokenglade.rlib -L target/tests -o uses && ./uses"
+}
+passes "$(uses tests/job_wrapper.rs)"
+damaged examples/tokenglade.rs 's/return Err(left);/self.by_ref().for_each(drop);/' "$(uses tests/job_wrapper.rs)"
+damaged examples/tokenglade.rs 's/if let Some(Ok(_)) = self.next()/if self.closed.is_none()/' "$(uses tests/job_wrapper.rs)"
+damaged examples/tokenglade.rs 's/closed.err().map(Err)/None/' "$(uses tests/job_wrapper.rs)"
+damaged examples/tokenglade.rs 's/self.handed = running;/self.handed = 0;/' "$(uses tests/job_wrapper.rs)"
+careless() {
+    printf '#![allow(unused_mut, unused_variables)]\nfn main() {\n    let mut job = tokenglade::Job::new(b"", &mut [], &mut []);\n    %s\n}\n' "$1" > careless.rs
+}
+careless 'for seed in &mut job { seed.unwrap_err(); } job.finish().unwrap_err();'
+passes "$(uses careless.rs)"
+careless 'job.finish();'
+fails "$(uses careless.rs)"
+said 'unused `Result` that must be used'
+careless 'tokenglade::Job::new(b"", &mut [], &mut []);'
+fails "$(uses careless.rs)"
+said 'a job is read as its seeds are taken'
+careless 'for seed in &mut job { let value: u32 = seed.value; }'
+fails "$(uses careless.rs)"
+said 'no field `value`'
 
 passes python3 tools/vector_files.py $vectors
 fails python3 tools/vector_files.py nowhere
@@ -196,15 +296,6 @@ passes examples/run.sh broken.yaml
 damaged examples/next.c 's/print_refusal(answer);/;/' examples/run.sh broken.yaml
 { printf -- '- a: [b, c]\n- ['; printf 'a,%.0s' $(seq 3000); printf 'a]\n'; } > crowded.yaml
 # libraries where the two calls differ
-cat > refusing.c <<'C'
-#include "tokenglade.h"
-void tokenglade_scan(const uint8_t *t, size_t n, uint32_t *w, size_t m, uint8_t *b, size_t k, uint32_t a[6]) {
-    (void)t, (void)n, (void)w, (void)m, (void)b, (void)k;
-    for (int i = 0; i < 6; i++)
-        a[i] = i == 0 ? 47 : i == 2;
-}
-C
-passes "objcopy --redefine-sym tokenglade_scan=real_scan '$library' librefusing.a && gcc -Iinclude -c refusing.c && ar rs librefusing.a refusing.o"
 damaged bench/native.sh "s|cp .*|cp $copy/librefusing.a \"\$1/libtokenglade.a\"|" examples/run.sh
 said "list refuses the sheet, and next accepts it"
 passes "cp libreal.a libfewer.a && gcc -Iinclude -DFAULT=1 -c tests/stream_faults.c && ar rs libfewer.a stream_faults.o"
@@ -223,6 +314,30 @@ void tokenglade_next(uint32_t *s, const uint8_t *t, size_t n, uint32_t *w, size_
     s[0] = 1;
 }
 C
+damaged examples/job.c 's/, seed\[0\]);/, seed[1]);/' examples/run.sh
+damaged examples/job.rs 's/while let Some/if let Some/' examples/run.sh
+said "job: status 0 in C, 1 in Rust"
+damaged examples/job.rs 's/mark.col + 1/mark.col/' examples/run.sh broken.yaml
+damaged examples/job.c 's/seeds before: %u/seeds: %u/' examples/run.sh broken.yaml
+reading 4
+damaged bench/native.sh "s|cp .*|cp $copy/libreading.a \"\$1/libtokenglade.a\"|" examples/run.sh
+said "its last line has not the count of its seeds, 5"
+# a job that is done, of a sheet that is refused
+passes "cp libreader.a libdone.a && objcopy --keep-global-symbol tokenglade_job none.o done.o && ar rs libdone.a done.o"
+damaged bench/native.sh "s|cp .*|cp $copy/libdone.a \"\$1/libtokenglade.a\"|" examples/run.sh broken.yaml
+said "next refuses the sheet, and its job is done"
+cat > odd_job.c <<'C'
+#include "tokenglade.h"
+void tokenglade_job(uint32_t *s, const uint8_t *t, size_t n, uint32_t *w, size_t m, uint8_t *b, size_t k, uint32_t *d, uint32_t *c) {
+    (void)s, (void)t, (void)n, (void)w, (void)m, (void)b, (void)k;
+    d[0] = d[1] = 4000000000;
+    for (int i = 0; i < 7; i++)
+        c[i] = 4000000000;
+}
+C
+passes "gcc -Iinclude examples/job.c odd_job.c -o job-odd"
+fails ./job-odd examples/job.yaml
+said "not done (4000000000) at line 4000000000, column 4000000001: unknown"
 passes "gcc -Iinclude examples/next.c odd.c -o next-odd"
 fails ./next-odd examples/sheet.yaml
 said "Scalar unknown (outside the bytes)"
@@ -232,7 +347,7 @@ said "next stops before list does: refused (51)"
 sed '2s/]/}/' crowded.yaml > both.yaml
 passes examples/run.sh both.yaml
 said "next stops before list does: refused (51)"
-for list in target/examples/{list,next}-{c,rust}; do
+for list in target/examples/{list,next,job}-{c,rust}; do
     fails $list
     fails $list nowhere
     fails "$list examples/sheet.yaml > /dev/full"
@@ -242,9 +357,35 @@ for list in target/examples/{list,next}-{c,rust}; do
     fails "$list examples/sheet.yaml >&-"
     fails "$list examples/sheet.yaml 1< /dev/null"
     fails "head -c 1048577 /dev/zero | $list /dev/stdin"
-    passes "head -c 3000000 /dev/zero | $list /dev/stdin | grep -q 'refused (1)'"
+    passes "head -c 3000000 /dev/zero | $list /dev/stdin | grep -q 'refused (1)\|^not done 1 1 1 0$'"
     case $list in */list-*) fails "yes 'a: b' | head -c 1000000 > large.yaml; ulimit -v 60000; $list large.yaml"; said "no memory" ;; esac
 done
+
+# The program's checks: what it is right in passes, and a program that is wrong in one thing does not
+real=$tree/target/tests/tokenglade
+[ -x "$real" ] || { echo "$real: tests/run.sh builds it" >&2; exit 2; }
+cp "$tree/tests/program.py" tests/program.py
+# lies PART.. WITH a script, in which $real is the program: its checks fail
+lies() {
+    printf '#!/bin/sh\nreal=%s\n%s\n' "$real" "$2" > liar
+    chmod +x liar
+    fails "python3 tests/program.py ./liar 20 $1"
+}
+passes "python3 tests/program.py $real 20 inputs usage outputs records kills progress tokens"
+lies vectors '"$real" "$@" | head -n -1'
+lies vectors '"$real" "$@"; exit 0'
+lies vectors '"$real" "$@" 2> /dev/null'
+lies inputs '"$real" "$@"; exit 0'
+lies inputs '"$real" "$@"; s=$?; [ $s = 2 ] && echo done 3 > "$4"; exit $s'
+lies usage '"$real" "$@"; exit 1'
+lies usage 'case $4 in */./*|*/link) echo > "$4" ;; esac; exec "$real" "$@"'
+lies outputs '"$real" "$@" > said; s=$?; cat said 2> /dev/null; exit $s'
+lies outputs '"$real" "$@"; s=$?; [ $s = 3 ] && [ "$2" = --record ] && echo > "$3.left"; exit $s'
+lies records '"$real" "$@"; s=$?; for f in "$@"; do case $f in */record) echo >> "$f" ;; esac; done; exit $s'
+lies records 'exec "$real" job "$2" --allow-empty "$@"'
+lies kills 'for f in "$@"; do case $f in */record) echo done 60000 > "$f" ;; esac; done; sleep 0.3; exec "$real" "$@"'
+lies progress 'exec "$real" "$@" 2> /dev/null'
+lies tokens '"$real" "$@" | grep -v Value'
 
 # a benchmark whose programs only say that they ran
 mkdir measured

@@ -166,7 +166,7 @@ def wrong_row(row, crate):
 
 def wrong_vectors():
     """The texts of which the model does not give 01's answer."""
-    names = [name for name in sorted(vector_files.counts(VECTORS)) if name not in ("crate.txt", "stream.txt")]
+    names = [name for name in sorted(vector_files.counts(VECTORS)) if name not in ("crate.txt", "stream.txt", "jobs.txt")]
     return [f"model: {name}: {text.hex()}" for name in names
             for _, text, told in vector_files.read(os.path.join(VECTORS, name)) if model.answer(text) != told]
 

@@ -43,7 +43,8 @@ class Stream:
         if scanner.used > self.room:
             raise model.Refused(5, model.ORIGIN)
         if len(scanner.tokens) - self.given > MOST_WAITING and self.waits_for_key():
-            raise model.Refused(51, scanner.mark())
+            # where the token ends that was scanned; behind '?' the scanner has read on
+            raise model.Refused(51, scanner.tokens[-1][2])
 
     def take(self):
         """The tokens that are given, one after the other."""
@@ -67,7 +68,8 @@ def answer(data, words, room):
     return f"{len(tokens)}|{';'.join(' '.join(map(str, w)) for w in listed)}|{used.hex()}|{last}|{last}"
 
 
-def main():
+def answer_lines(answer):
+    """Prints the lines of the file that the argument names, or of standard input, each with its answer."""
     lines = open(sys.argv[1], encoding="ascii") if len(sys.argv) > 1 else sys.stdin
     for line in lines:
         head = line.rstrip("\n").split(" => ")[0]
@@ -77,4 +79,4 @@ def main():
 
 
 if __name__ == "__main__":
-    main()
+    answer_lines(answer)

@@ -1,28 +1,30 @@
-// Reads lines `HEX words=W bytes=B`. Writes each again, with what taking the tokens of the text one at a time gives in rooms of W words and B bytes.
-mod head;
+// Reads lines `HEX words=W bytes=B`. Writes each again, with what taking the tokens of the text one at a time gives in rooms of W words and B bytes; or, where
+// the line goes on behind that, with the seeds and the closing record of the job that the text is.
+mod handed;
 mod taken;
 
 ghost use Prim.Native.Nat.{_≤_};
 ghost use lib.ListN.{length};
-use head::least;
-use head::number_end;
-use head::read_number;
+use handed::say_job;
 use libc::STDIN_FILENO;
 use libc::STDOUT_FILENO;
 use records::RECORD_WORDS;
 use stream::LEAST_RECORDS;
 use taken::say_taken;
+use vectors::head::least;
+use vectors::head::number_end;
+use vectors::head::read_number;
 use vectors::line_end;
 use vectors::read_hex;
 
 // The longest text, and the most bytes that are lent to it.
-const MOST_TEXT: usize = 8_448;
+const MOST_TEXT: usize = 10_752;
 
-const MOST_BYTES: usize = 12_672;
+const MOST_BYTES: usize = 16_128;
 
 // 7 bytes stand before each number, ` words=` and ` bytes=`.
 fn restream_line(line: &[u8], words: &mut [u32], bytes: &mut [u8])
-    requires { ⌜ length (now bytes) ≤ 12_672 ⌝ }
+    requires { ⌜ length (now bytes) ≤ 16_128 ⌝ }
 {
     let mut space = [0u8; MOST_TEXT];
     let n = read_hex(line, &mut space);
@@ -32,12 +34,16 @@ fn restream_line(line: &[u8], words: &mut [u32], bytes: &mut [u8])
     let b = least(read_number(line, to + 7) as usize, bytes.len());
     io::write_all(STDOUT_FILENO, line);
     io::write_all(STDOUT_FILENO, b" => ");
+    if number_end(line, to + 7) < line.len() {
+        say_job(&space[0..n], &mut words[0..w], &mut bytes[0..b]);
+        return;
+    }
     say_taken(&space[0..n], &mut words[0..w], &mut bytes[0..b]);
 }
 
 // The rooms hold what the text before left there.
 fn restream_all(s: &[u8], words: &mut [u32], bytes: &mut [u8])
-    requires { ⌜ length (now bytes) ≤ 12_672 ⌝ }
+    requires { ⌜ length (now bytes) ≤ 16_128 ⌝ }
 {
     let mut at = 0;
     while at < s.len() {
@@ -49,14 +55,14 @@ fn restream_all(s: &[u8], words: &mut [u32], bytes: &mut [u8])
 
 // The lines go into a room of their own, which holds the whole file.
 fn restream_input(space: &mut [u8], words: &mut [u32], bytes: &mut [u8])
-    requires { ⌜ length (now bytes) ≤ 12_672 ⌝ }
+    requires { ⌜ length (now bytes) ≤ 16_128 ⌝ }
 {
     let n = io::read_full(STDIN_FILENO, space);
     restream_all(&space[0..n], words, bytes);
 }
 
 fn main() {
-    let mut space = [0u8; 524288];
+    let mut space = [0u8; 655360];
     let mut words = [7u32; LEAST_RECORDS * RECORD_WORDS];
     let mut bytes = [7u8; MOST_BYTES];
     restream_input(&mut space, &mut words, &mut bytes);

@@ -2,7 +2,6 @@
 ghost use Prim.Native.Nat.{_+_, _<_, _^_, _≤_};
 ghost use lib.ListN.{length};
 use crate::MOST_BYTES;
-use crate::head::least;
 use driver::held::HELD_WORDS;
 use libc::STDOUT_FILENO;
 use printing::say_numbers;
@@ -11,6 +10,7 @@ use records::token::kind_number;
 use stream::Next;
 use stream::next_token;
 use vectors::behind;
+use vectors::head::least;
 use vectors::put_hex;
 use yaml_lexeme::Kind;
 
@@ -98,7 +98,7 @@ fn say_tokens(
 
 // Writes bytes in hexadecimal.
 fn say_bytes(bytes: &[u8])
-    requires { ⌜ length (now bytes) ≤ 12_672 ⌝ }
+    requires { ⌜ length (now bytes) ≤ 16_128 ⌝ }
 {
     let mut out = [0u8; 2 * MOST_BYTES];
     let n = put_hex(&mut out, 0, bytes);
@@ -146,7 +146,7 @@ fn say_count(text: &[u8], words: &mut [u32], bytes: &mut [u8]) -> u32
 
 // Writes the bytes that hold the texts.
 fn say_used(bytes: &[u8], used: usize)
-    requires { ⌜ length (now bytes) ≤ 12_672 ⌝ }
+    requires { ⌜ length (now bytes) ≤ 16_128 ⌝ }
 {
     let d = least(used, bytes.len());
     say_bytes(&bytes[0..d]);
@@ -155,7 +155,7 @@ fn say_used(bytes: &[u8], used: usize)
 
 // Writes n tokens and the answers of the next two calls.
 fn say_given(text: &[u8], words: &mut [u32], bytes: &mut [u8], n: u32)
-    requires { ⌜ length (now bytes) ≤ 12_672 ⌝ }
+    requires { ⌜ length (now bytes) ≤ 16_128 ⌝ }
 {
     let mut held = [0u32; HELD_WORDS];
     let used = say_tokens(&mut held, text, words, bytes, n);
@@ -166,7 +166,7 @@ fn say_given(text: &[u8], words: &mut [u32], bytes: &mut [u8], n: u32)
 
 // The tokens are counted first, then taken again.
 pub(crate) fn say_taken(text: &[u8], words: &mut [u32], bytes: &mut [u8])
-    requires { ⌜ (length (now text) < 2 ^ 30) × (length (now bytes) ≤ 12_672) ⌝ }
+    requires { ⌜ (length (now text) < 2 ^ 30) × (length (now bytes) ≤ 16_128) ⌝ }
 {
     let n = say_count(text, words, bytes);
     say_given(text, words, bytes, n);

@@ -147,6 +147,25 @@ fn next_within(
     go_on(limits, held, text, words, bytes, token)
 }
 
+// For callers that keep more than this behind what is held.
+pub fn next_held(
+    held: &mut [u32],
+    text: &[u8],
+    words: &mut [u32],
+    bytes: &mut [u8],
+    token: &mut [u32; RECORD_WORDS],
+) -> Next
+    requires { ⌜ length (now held) ≡ held-words ⌝ }
+    ensures { λ r. ⌜ Promises standard (now (text .entry)) (now (held .entry)) (now (words .entry)) (now (bytes .entry)) (now (held .exit)) (now (words .exit)) (now (bytes .exit)) (now (token .exit)) r ⌝ }
+{
+    let limits = Limits {
+        bytes: 1_048_576,
+        levels: 255,
+        entries: 255,
+    };
+    next_within(limits, held, text, words, bytes, token)
+}
+
 // The next token of a text. What is held is all zero at first; held, text, words and bytes are those of the call before.
 pub fn next_token(
     held: &mut [u32; HELD_WORDS],
@@ -157,10 +176,5 @@ pub fn next_token(
 ) -> Next
     ensures { λ r. ⌜ Promises standard (now (text .entry)) (now (held .entry)) (now (words .entry)) (now (bytes .entry)) (now (held .exit)) (now (words .exit)) (now (bytes .exit)) (now (token .exit)) r ⌝ }
 {
-    let limits = Limits {
-        bytes: 1_048_576,
-        levels: 255,
-        entries: 255,
-    };
-    next_within(limits, held, text, words, bytes, token)
+    next_held(held, text, words, bytes, token)
 }

@@ -1,3 +1,4 @@
 pub mod Numbers
 pub mod Enough
 pub mod Next
+pub mod Job

@@ -1,4 +1,5 @@
 // Vectors: lines that begin with a text in hexadecimal.
+pub mod head;
 mod write;
 
 ghost use mathlib.Core.Path.{_≡_};

@@ -33,7 +33,8 @@ use Rattle.yaml_job.specs.declared.ShapePlace.{ShapePlace}
 use Rattle.yaml_job.specs.declared.ShapePlace.the-variants.{AtEnd, AtEntry, AtField, AtList, AtMapping, AtName, AtStart, AtText, AtValue, BehindField, BehindSeed}
 use Rattle.yaml_job.specs.Job.{Job, Talk, all-met, effect, follow, is, job, job-call, job-called, none-met, on-said, placed, sight}
 use Rattle.yaml_job.specs.Shape.{Entries, FieldOf, Fields, Is, Shape, ValueOf, comma-field, field, last-field, last-seed, next-field, next-seed, no-field, no-seed, panel-text, sample-text, seed-list, shape}
-use Rattle.yaml_job.specs.Reads.{End, Judgement, after-effect, done-shape, ends-done, judged, judgement, shape-done, stops, unread}
+use Rattle.yaml_job.specs.Reads.{End, Judgement, after-effect, done-shape, ends-done, judged, judgement, stops, unread}
+use Rattle.yaml_job.specs.Fits.{shape-done}
 use Rattle.yaml_job.specs.Calls.{HasEnded, answer-of, follow-says, judge, talk-of}
 use Rattle.yaml_job.specs.Last.{built-last}
 

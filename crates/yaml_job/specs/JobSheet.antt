@@ -1,38 +1,25 @@
 -- An instance of OneList: the job sheet `sample: a`, `panel: b`, `seeds: [1, 1, ]`, each on its line, with k seeds. Whatever k is, its stream meets no 51.
 use Prim.Native.Nat.{_+_, _-_, _≤_, suc, zero, ℕ}
-use mathlib.Core.Bool.{Bool, _&&_, false, not, true}
+use mathlib.Core.Bool.{Bool, false, true}
 use mathlib.Core.List.{List, [], _++_, _∷_}
-use mathlib.Core.Path.{_∙_, _≡_, refl, sym}
+use mathlib.Core.Path.{_≡_, refl, sym}
 use native.Mathlib.Omega.{arith}
-use lib.Dec.{eqb, leb, ltb}
-use borrow.Author.Tests.{eqb-true, le-ltb, leb-true, ne-eqb}
-use Rattle.yaml_text.specs.declared.Decoded.the-variants.{Char}
 use Rattle.yaml_text.specs.declared.Mark.{Mark}
-use Rattle.yaml_text.specs.Char.{':', '[', 'a', 'b', comma, line-feed, space}
-use Rattle.yaml_text.specs.Class.{is-z, peek}
-use Rattle.yaml_text.specs.Utf8.{by-len, first, len-of}
-use Rattle.yaml_text.specs.Mark.{here, origin, over}
-use Rattle.yaml_text.specs.Refusal.{Read, _>>=_, got, need, refused}
-use Rattle.yaml_text.specs.Decode.{decode}
-use Rattle.yaml_text.specs.Test.{both-true, true-false}
-use Rattle.yaml_scan.specs.declared.Candidate.{Candidate}
-use Rattle.yaml_scan.specs.declared.Candidate.the-variants.{Absent, Possible}
-use Rattle.yaml_scan.specs.declared.Choice.{Choice}
-use Rattle.yaml_scan.specs.declared.Choice.the-variants.{AtComma, AtEnd, AtPlain, Closes}
-use Rattle.yaml_scan.specs.Indent.{indents-of}
-use Rattle.yaml_scan.specs.State.{Event, News, State, block-ends, ends-with, goes-on, mark-of, preceded}
-use Rattle.yaml_scan.specs.Bracket.{new-level}
-use Rattle.yaml_scan.specs.Choice.{choice}
-use Rattle.yaml_scan.specs.Fetch.{fetch}
-use Rattle.yaml_scan.specs.Scan.{begin, standard, step, to-next-token, unrolled}
+use Rattle.yaml_text.specs.Char.{':', '[', 'a', 'b', line-feed, space}
+use Rattle.yaml_text.specs.Mark.{along, origin}
+use Rattle.yaml_text.specs.Refusal.{Read, got, refused}
+use Rattle.yaml_text.specs.Test.{true-false}
+use Rattle.yaml_lexeme.specs.declared.Style.the-variants.{Plain}
+use Rattle.yaml_lexeme.specs.Token.{BlockMappingStart, Key, Scalar, Value, empty-token}
+use Rattle.yaml_scan.specs.declared.Candidate.the-variants.{Possible}
+use Rattle.yaml_scan.specs.State.{Event, News, State, ends-with, goes-on, put, put-before}
+use Rattle.yaml_scan.specs.Scan.{begin, standard, step}
 use Rattle.yaml_scan.specs.Open.{all-open}
 use Rattle.yaml_scan.specs.SlotLaws.{total}
-use Rattle.yaml_scan.specs.Steps.{unrolled-state}
 use Rattle.yaml_stream.specs.Stream.{broken, fresh, too-many-wait}
+use Rattle.yaml_stream.specs.Sizes.{total-append}
 use Rattle.yaml_stream.specs.Waiting.{StreamReaches}
-use Rattle.yaml_stream.specs.InList.{next-choice}
-use Rattle.yaml_stream.specs.OnKeyLine.{KeyLine}
-use Rattle.yaml_stream.specs.Sheet.{entries}
+use Rattle.yaml_stream.specs.SeedList.{before-entries, behind-bracket, behind-key, behind-list, close-step, comma-next, comma-step, end-step, entries, entries-simple, in-line, key-line, last-entry, last-inside, mapping, next-entry, next-events, next-state, one-given, open-mark, seed-next, seed-step, simple, simple-decode, spans}
 use Rattle.yaml_job.specs.declared.Field.the-variants.{Panel, Sample, Seeds}
 use Rattle.yaml_job.specs.Job.{spelled}
 use Rattle.yaml_job.specs.Open.{job-open}
@@ -44,280 +31,119 @@ job-sheet k =
     ++ (spelled Panel ++ (':' ∷ space ∷ 'b' ∷ line-feed ∷ []))
     ++ (spelled Seeds ++ (':' ∷ space ∷ '[' ∷ entries k))
 
--- its characters: each byte is one
-
-unfoldable simple : List ℕ → Bool
-simple [] = true
-simple (c ∷ cs) = eqb (len-of c) 1 && (not (is-z c) && simple cs)
-
-simple-first : (c : ℕ) (cs : List ℕ) → len-of c ≡ 1 → first (c ∷ cs) ≡ Char c 1
-unfolding first by-len
-simple-first c cs e = rw e
-
-not-true : (b : Bool) → not b ≡ true → b ≡ false
-not-true true e = cc
-not-true false e = refl
-
-simple-decode : (m : Mark) (cs : List ℕ) → simple cs ≡ true → decode 0 m cs ≡ got cs
-unfolding decode need _>>=_ simple
-simple-decode m [] e = refl
-simple-decode m (c ∷ cs) e =
-    let a = both-true (eqb (len-of c) 1) _ e in
-    let b = both-true (not (is-z c)) (simple cs) (a .1) in
-    rw (simple-first c cs (eqb-true (len-of c) 1 (a .0)), not-true (is-z c) (b .0), simple-decode (over m c (peek cs 0)) cs (b .1))
-
-entries-simple : (k : ℕ) → simple (entries k) ≡ true
-unfolding simple all-open
-entries-simple zero = refl
-entries-simple (suc k) = entries-simple k
-
-sheet-simple : (k : ℕ) → simple (job-sheet k) ≡ true
+pub sheet-simple : (k : ℕ) → simple (job-sheet k) ≡ true
 unfolding simple all-open job-open
 sheet-simple k = entries-simple k
 
 -- before the list each step is computed
 
-abbrev next-state : Read News → State
-next-state (got (goes-on es s)) = s
-next-state (got (ends-with es)) = begin []
-next-state (refused n m) = begin []
+-- steps from one state to another, and all that they say
+pub data Told : List Event → State → State → Type 0 where
+  nothing : {s : State} → Told [] s s
+  then : {s t u : State} {es fs : List Event} → step standard s ≡ got (goes-on es t) → Told fs t u → Told (es ++ fs) s u
 
--- so many steps
+-- so many steps, which go on
 unfoldable steps : ℕ → State → State
 steps zero s = s
 steps (suc n) s = steps n (next-state (step standard s))
 
--- they go on, and say at most c tokens
-abbrev pays : Read News → ℕ → (ℕ → State → Bool) → Bool
-pays (got (goes-on es t)) c go = leb (total es) c && go (c - total es) t
-pays (got (ends-with es)) c go = false
-pays (refused n m) c go = false
+unfoldable said : ℕ → State → List Event
+said zero s = []
+said (suc n) s = next-events (step standard s) ++ said n (next-state (step standard s))
 
-unfoldable paid : ℕ → ℕ → State → Bool
-paid zero c s = true
-paid (suc n) c s = pays (step standard s) c (λ d t. paid n d t)
+abbrev on-going : Read News → (State → Bool) → Bool
+on-going (got (goes-on es t)) go = go t
+on-going (got (ends-with es)) go = false
+on-going (refused n m) go = false
 
-paid-says : (n c : ℕ) (s : State) → paid n c s ≡ true → Says standard c s (steps n s)
-unfolding paid steps
-paid-says zero c s e = no-step
-paid-says (suc n) c s e = by-news (step standard s) refl e (λ d t f. paid-says n d t f)
+unfoldable going : ℕ → State → Bool
+going zero s = true
+going (suc n) s = on-going (step standard s) (λ t. going n t)
+
+computed : (n : ℕ) (s : State) → going n s ≡ true → Told (said n s) s (steps n s)
+unfolding steps said going
+computed zero s e = nothing
+computed (suc n) s e = by-news (step standard s) refl e (λ t f. computed n t f)
   where
-    by-news : (r : Read News) → step standard s ≡ r → pays r c (λ d t. paid n d t) ≡ true → ((d : ℕ) (t : State) → paid n d t ≡ true → Says standard d t (steps n t))
-        → Says standard c s (steps n (next-state r))
-    by-news (got (goes-on es t)) i f go =
-        let b = both-true (leb (total es) c) _ f in
-        let l : total es + (c - total es) ≤ c = omega (arith, leb-true (total es) c (b .0)) in
-        a-step i l (go (c - total es) t (b .1))
+    by-news : (r : Read News) → step standard s ≡ r → on-going r (λ t. going n t) ≡ true → ((t : State) → going n t ≡ true → Told (said n t) t (steps n t))
+        → Told (next-events r ++ said n (next-state r)) s (steps n (next-state r))
+    by-news (got (goes-on es t)) i f go = then i (go t f)
     by-news (got (ends-with es)) i f go = true-false (sym f)
     by-news (refused k m) i f go = true-false (sym f)
 
--- at level 0, in the third line, behind the key
-abbrev behind-key : ℕ → State
-behind-key k =
-    record {
-      place = here (record { index = 24; line = 3; col = 5 }) (':' ∷ space ∷ '[' ∷ entries k);
-      leading-whitespace = false;
-      simple-key-allowed = false;
-      indents = indents-of 1 (record { old = 0; ends = true } ∷ []);
-      keys = Possible true 7 (record { index = 19; line = 3; col = 0 }) ∷ [];
-      levels = [];
-      adjacent-value-allowed-at = 0;
-      count = 8;
-    }
+told-says : {s u : State} {es : List Event} (c : ℕ) → Told es s u → total es ≤ c → Says standard c s u
+told-says c nothing b = no-step
+told-says c (then {es = es} {fs = fs} e h) b =
+    let t = total-append es fs in
+    let l : total es + (c - total es) ≤ c = omega (arith, t) in
+    a-step e l (told-says (c - total es) h (omega (arith, t)))
 
-before-list : (k : ℕ) → Says standard 10 (begin (job-sheet k)) (behind-key k)
-unfolding all-open job-open total paid steps
-before-list k = paid-says 7 10 (begin (job-sheet k)) refl
+-- what is said before the list, as it is computed: that it is told by its numbers keeps the comparison short
 
--- the bracket stands on its key's line
+abbrev mark-at : ℕ → ℕ → ℕ → Mark
+mark-at i l d = record { index = i; line = l; col = d }
 
-abbrev read-state : Read State → State
-read-state (got s) = s
-read-state (refused n m) = begin []
+abbrev text-at : List ℕ → Mark → Mark → Event
+text-at cs m e = put (spans (Scalar Plain cs) m e)
 
-abbrev next-events : Read News → List Event
-next-events (got (goes-on es s)) = es
-next-events (got (ends-with es)) = es
-next-events (refused n m) = []
+abbrev pub heading : List Event
+heading =
+    text-at (spelled Sample) origin (mark-at 6 1 6)
+    ∷ put-before 1 (empty-token BlockMappingStart origin ∷ empty-token Key origin ∷ [])
+    ∷ put (spans Value (mark-at 6 1 6) (mark-at 7 1 7))
+    ∷ text-at ('a' ∷ []) (mark-at 8 1 8) (mark-at 9 1 9)
+    ∷ text-at (spelled Panel) (mark-at 10 2 0) (mark-at 15 2 5)
+    ∷ put-before 4 (empty-token Key (mark-at 10 2 0) ∷ [])
+    ∷ put (spans Value (mark-at 15 2 5) (mark-at 16 2 6))
+    ∷ text-at ('b' ∷ []) (mark-at 17 2 7) (mark-at 18 2 8)
+    ∷ text-at (spelled Seeds) (mark-at 19 3 0) (mark-at 24 3 5)
+    ∷ []
 
-abbrev behind-colon : ℕ → State
-behind-colon k = next-state (step standard (behind-key k))
+-- the list opens in the third line, behind its key, token 7
+abbrev pub third-line : ℕ → State
+third-line k = in-line (':' ∷ space ∷ '[' ∷ entries k) (mark-at 24 3 5) (mapping true) (Possible true 7 (mark-at 19 3 0)) 0 8
 
--- in the list, at that index and column, n tokens given, with that candidate
-abbrev in-list : List ℕ → ℕ → ℕ → ℕ → Bool → Candidate → State
-in-list cs i d n allowed k =
-    record {
-      place = here (record { index = i; line = 3; col = d }) cs;
-      leading-whitespace = false;
-      simple-key-allowed = allowed;
-      indents = next-state (step standard (behind-colon 0)) .indents;
-      keys = k ∷ Absent ∷ [];
-      levels = new-level true ∷ [];
-      adjacent-value-allowed-at = 0;
-      count = n;
-    }
+-- behind its bracket
+abbrev pub first-entry : Mark
+first-entry = along (open-mark 19 3)
 
-bracket-step : (k : ℕ) → (es : List Event) × (step standard (behind-colon k) ≡ got (goes-on es (in-list (entries k) 27 8 10 true Absent)))
-unfolding all-open
-bracket-step zero = (next-events (step standard (behind-colon 0)), refl)
-bracket-step (suc k) = (next-events (step standard (behind-colon (suc k))), refl)
-
-key-line : (k : ℕ) → KeyLine standard (behind-key k) (in-list (entries k) 27 8 10 true Absent)
-unfolding all-open
-key-line k =
-    record {
-      at-colon = read-state (to-next-token (behind-key k));
-      first-gap = refl;
-      colon = refl;
-      outside = refl;
-      alone = λ _. tt;
-      required = true;
-      number = 7;
-      mark = record { index = 19; line = 3; col = 0 };
-      candidate = refl;
-      value = behind-colon k;
-      first-events = next-events (step standard (behind-key k));
-      first-step = refl;
-      at-bracket = read-state (to-next-token (behind-colon k));
-      second-gap = refl;
-      forbidden = refl;
-      sequence = true;
-      bracket = refl;
-      second-events = bracket-step k .0;
-      second-step = bracket-step k .1;
-    }
-
--- in the list, by the choice
-
--- a step and what it chose, where no gap stands before the token
-chosen-step : (s : State) (c : Choice) → to-next-token s ≡ got s → choice (unrolled-state s) ≡ c
-    → step standard s ≡ (fetch standard c (unrolled-state s) >>= λ w. got (preceded (block-ends (unrolled s .ended) (mark-of s)) w))
-unfolding step _>>=_
-chosen-step s c e f = rw (e, f)
-
-chosen-next : (s : State) (c : Choice) → to-next-token s ≡ got s → choice (unrolled-state s) ≡ c → next-choice s ≡ got c
-unfolding _>>=_
-chosen-next s c e f = rw (e, f)
-
--- at a column in the list: no marker stands there, and it is not below the indent
-col-some : (d : ℕ) → 1 ≤ d → eqb d 0 ≡ false
-col-some d h = ne-eqb d 0 (λ e. omega arith)
-
-col-in : (d : ℕ) → 1 ≤ d → ltb (d + 1) 2 ≡ false
-col-in d h = le-ltb (d + 1) 2 (omega arith)
-
--- behind a seed, which is token c
-abbrev behind-seed : ℕ → ℕ → ℕ → ℕ → ℕ → Mark → State
-behind-seed k i d n c m = in-list (comma ∷ space ∷ entries k) i d n false (Possible false c m)
-
-module _ (k i d n : ℕ) (h : 1 ≤ d) where
-  abbrev at-seed : State
-  at-seed = in-list (entries (suc k)) i d n true Absent
-
-  seed-choice : choice (unrolled-state at-seed) ≡ AtPlain
-  unfolding all-open
-  seed-choice = rw (col-some d h, col-in d h)
-
-  seed-next : next-choice at-seed ≡ got AtPlain
-  unfolding all-open
-  seed-next = chosen-next at-seed AtPlain refl seed-choice
-
-  seed-step : (es : List Event) × (step standard at-seed ≡ got (goes-on es (behind-seed k (i + 1) (d + 1) (n + 0 + 1) (n + 0) (record { index = i; line = 3; col = d }))))
-  unfolding all-open
-  seed-step = (next-events (fetch standard AtPlain (unrolled-state at-seed)), chosen-step at-seed AtPlain refl seed-choice ∙ refl)
-
--- blanks behind ',' are in its span
-comma-fetch : (k i d n c : ℕ) (m : Mark) → let s = unrolled-state (behind-seed k i d n c m) in
-    fetch standard AtComma s ≡ got (goes-on (next-events (fetch standard AtComma s)) (in-list (entries k) (i + 1 + 1) (d + 1 + 1) (n + 0 + 1) true Absent))
-unfolding all-open
-comma-fetch zero i d n c m = refl
-comma-fetch (suc k) i d n c m = refl
-
-module _ (k i d n c : ℕ) (m : Mark) (h : 1 ≤ d) where
-  abbrev at-comma : State
-  at-comma = behind-seed k i d n c m
-
-  comma-choice : choice (unrolled-state at-comma) ≡ AtComma
-  unfolding all-open
-  comma-choice = rw (col-some d h, col-in d h)
-
-  comma-next : next-choice at-comma ≡ got AtComma
-  unfolding all-open
-  comma-next = chosen-next at-comma AtComma refl comma-choice
-
-  comma-step : (es : List Event) × (step standard at-comma ≡ got (goes-on es (in-list (entries k) (i + 1 + 1) (d + 1 + 1) (n + 0 + 1) true Absent)))
-  unfolding all-open
-  comma-step = (next-events (fetch standard AtComma (unrolled-state at-comma)), chosen-step at-comma AtComma refl comma-choice ∙ rw (comma-fetch k i d n c m))
+pub before-list : (k : ℕ) → Told heading (begin (job-sheet k)) (third-line k)
+unfolding all-open job-open steps said going
+before-list k = computed 7 (begin (job-sheet k)) refl
 
 -- up to the closing bracket
-record ToClose (k i d n : ℕ) : Type 0 where
-  index : ℕ
-  col : ℕ
-  given : ℕ
-  inside : 1 ≤ col
-  items : Items standard false (in-list (entries k) i d n true Absent) (in-list (entries 0) index col given true Absent)
 
-to-close : (k i d n : ℕ) → 1 ≤ d → ToClose k i d n
-to-close zero i d n h = record { index = i; col = d; given = n; inside = h; items = no-item }
-to-close (suc k) i d n h =
-    let m : Mark = record { index = i; line = 3; col = d } in
-    let b : 1 ≤ d + 1 = omega arith in
-    let e = seed-step k i d n h in
-    let f = comma-step k (i + 1) (d + 1) (n + 0 + 1) (n + 0) m b in
-    let r = to-close k (i + 1 + 1 + 1) (d + 1 + 1 + 1) (n + 0 + 1 + 0 + 1) (omega arith) in
-    record {
-      index = r .index;
-      col = r .col;
-      given = r .given;
-      inside = r .inside;
-      items = a-scalar (seed-next k i d n h) (e .1) (a-comma (comma-next k (i + 1) (d + 1) (n + 0 + 1) (n + 0) m b) (f .1) (r .items));
-    }
+abbrev given-then : ℕ → ℕ → ℕ
+given-then zero n = n
+given-then (suc k) n = given-then k (one-given (one-given n))
+
+to-close : (k : ℕ) (m : Mark) (n : ℕ) → 1 ≤ m .col → Items standard false (before-entries k m n) (before-entries 0 (last-entry k m) (given-then k n))
+to-close zero m n h = no-item
+to-close (suc k) m n h =
+    let b : 1 ≤ m .col + 1 = omega arith in
+    a-scalar (seed-next k m n h) (seed-step k m n h)
+    (a-comma (comma-next k (along m) (n + 0) m (one-given n) b) (comma-step k (along m) (n + 0) m (one-given n) b)
+    (to-close k (next-entry m) (one-given (one-given n)) (omega arith)))
 
 -- behind it the text ends
-
-abbrev behind-list : ℕ → ℕ → ℕ → State
-behind-list i d n =
-    record {
-      place = here (record { index = i; line = 3; col = d }) [];
-      leading-whitespace = false;
-      simple-key-allowed = false;
-      indents = next-state (step standard (behind-colon 0)) .indents;
-      keys = Absent ∷ [];
-      levels = [];
-      adjacent-value-allowed-at = i + 1;
-      count = n;
-    }
-
-closed : (i d n : ℕ) → 1 ≤ d → (es : List Event) × (step standard (in-list (entries 0) i d n true Absent) ≡ got (goes-on es (behind-list (i + 1) (d + 1) (n + 0 + 1)))) × (total es ≡ 1)
-unfolding all-open total
-closed i d n h =
-    let s = in-list (entries 0) i d n true Absent in
-    let e : choice (unrolled-state s) ≡ Closes true = rw (col-some d h, col-in d h) in
-    (next-events (fetch standard (Closes true) (unrolled-state s)), chosen-step s (Closes true) refl e ∙ refl, refl)
-
-ends : (i d n : ℕ) → (es : List Event) × (step standard (behind-list i d n) ≡ got (ends-with es))
-unfolding all-open
-ends i d n =
-    let s = behind-list i d n in
-    (block-ends (unrolled s .ended) (mark-of s) ++ next-events (fetch standard AtEnd (unrolled-state s)), chosen-step s AtEnd refl refl ∙ refl)
-
 pub sheet-one-list : (k : ℕ) → OneList standard 10 (job-sheet k)
+unfolding total
 sheet-one-list k =
-    let r = to-close k 27 8 10 (omega arith) in
-    let c = closed (r .index) (r .col) (r .given) (r .inside) in
-    let e = ends (r .index + 1) (r .col + 1) (r .given + 0 + 1) in
+    let m = last-entry k first-entry in
+    let n = given-then k 10 in
+    let h = last-inside k first-entry (omega arith) in
     record {
       characters = job-sheet k;
       decoded = simple-decode origin (job-sheet k) (sheet-simple k);
-      key = behind-key k;
-      before = before-list k;
-      first = in-list (entries k) 27 8 10 true Absent;
-      line = key-line k;
-      last = in-list (entries 0) (r .index) (r .col) (r .given) true Absent;
-      items = r .items;
-      final = behind-list (r .index + 1) (r .col + 1) (r .given + 0 + 1);
-      after = a-step {c = 10} {d = 9} {es = c .0} (c .1) (omega (arith, c .2)) no-step;
-      over = rw (e .1) tt;
+      key = behind-key 19 3 k 7 true;
+      before = told-says 10 (before-list k) (omega arith);
+      first = behind-bracket 19 3 k 7;
+      line = key-line 19 3 k 7 true;
+      last = before-entries 0 m n;
+      items = to-close k first-entry 10 (omega arith);
+      final = behind-list (along m) (one-given n);
+      after = a-step {c = 10} {d = 9} (close-step m n h) (omega arith) no-step;
+      over = rw (end-step (along m) (one-given n) (omega (arith, h))) tt;
     }
 
 -- however many seeds, words and bytes

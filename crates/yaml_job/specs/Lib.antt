@@ -3,6 +3,7 @@ pub mod Open
 pub mod Shape
 pub mod Seen
 pub mod Reads
+pub mod Fits
 pub mod Calls
 pub mod Last
 pub mod Done
@@ -13,3 +14,4 @@ pub mod Handed
 pub mod Examples
 pub mod OneList
 pub mod JobSheet
+pub mod SheetDone

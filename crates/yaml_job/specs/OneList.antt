@@ -1,44 +1,41 @@
 -- A text whose one list opens on its key's line, as in a job sheet in block form: however long the list is, 51 is not met, and the job is done. Outside the list no more
 -- waits than was said; behind its bracket no key is possible (OnKeyLine), so all that waits is given; inside it a scalar waits for the ',' behind it (InList).
 use Prim.Native.Nat.{_+_, _/_, _<_, _≤_, suc, zero, ℕ}
-use mathlib.Core.Bool.{Bool, _&&_, false, true}
-use mathlib.Core.List.{List, [], _∷_}
+use mathlib.Core.Bool.{Bool, false, true}
+use mathlib.Core.List.{List, []}
 use mathlib.Core.Logic.{inl, inr}
-use mathlib.Core.Path.{_∙_, _≡_, ap, refl}
+use mathlib.Core.Path.{_∙_, _≡_, ap, refl, sym}
 use native.Mathlib.Omega.{arith}
 use lib.Dec.{ltb}
 use lib.ListN.{drop, length}
-use borrow.Author.Tests.{le-ltb}
 use Rattle.yaml_text.specs.declared.Mark.{Mark}
-use Rattle.yaml_text.specs.Mark.{Place, origin}
+use Rattle.yaml_text.specs.Mark.{origin}
 use Rattle.yaml_text.specs.Refusal.{Read, got, refused}
 use Rattle.yaml_text.specs.Decode.{decode}
 use Rattle.yaml_text.specs.PlaceLaws.{left}
-use Rattle.yaml_text.specs.Test.{by-test, true-false}
-use Rattle.yaml_text.specs.All.{All, all-any, all-bind, all-got, all-is, holds}
-use Rattle.yaml_lexeme.specs.Token.{StreamStart, Token, empty-token, texts}
+use Rattle.yaml_text.specs.Test.{true-false}
+use Rattle.yaml_text.specs.All.{all-got}
+use Rattle.yaml_lexeme.specs.Token.{Token, texts}
 use Rattle.yaml_lexeme.specs.Record.{record-words}
-use Rattle.yaml_scan.specs.declared.Candidate.{Candidate}
-use Rattle.yaml_scan.specs.declared.Candidate.the-variants.{Absent, Possible}
 use Rattle.yaml_scan.specs.declared.Choice.the-variants.{AtComma, AtPlain}
 use Rattle.yaml_scan.specs.declared.Limits.{Limits}
-use Rattle.yaml_scan.specs.Keys.{lapse, set-key, top-key}
-use Rattle.yaml_scan.specs.State.{Event, News, State, allow, at-place, ends-with, goes-on, in-flow, lapse-key, with-keys}
-use Rattle.yaml_scan.specs.Scan.{Outcome, after-events, begin, outcome, run, scan, step, stopped, to-next-token}
-use Rattle.yaml_scan.specs.Slots.{Slot, flat, slot}
+use Rattle.yaml_scan.specs.State.{Event, News, State, ends-with, goes-on, in-flow}
+use Rattle.yaml_scan.specs.Scan.{Outcome, after-events, begin, outcome, run, scan, step, stopped}
+use Rattle.yaml_scan.specs.Slots.{Slot, flat}
 use Rattle.yaml_scan.specs.SlotLaws.{total}
 use Rattle.yaml_scan.specs.Runs.{step-news}
 use Rattle.yaml_scan.specs.Budget.{run-enough}
 use Rattle.theorems.specs.Accepted.{Accepts}
 use Rattle.theorems.specs.Numbers.{has-rule}
-use Rattle.yaml_stream.specs.Stream.{Next, Stream, after-news, begun, behind, brings, broken, call, closing, crowded, ended, first-of, fresh, give, hear, least-records, most-waiting, on-answer, possible, ready, refusal, scanning, spent, stepped, token, too-many-wait, waits}
-use Rattle.yaml_stream.specs.Waits.{flat-length, waits-total}
-use Rattle.yaml_stream.specs.Alone.{Absents, absents-drop, absents-not}
-use Rattle.yaml_stream.specs.Waiting.{StreamReaches, call-reaches, here, then-give, then-step}
+use Rattle.yaml_stream.specs.Stream.{Next, Stream, after-news, broken, call, closing, crowded, ended, fresh, hear, least-records, most-waiting, on-answer, ready, refusal, scanning, spent, token, too-many-wait, waits}
+use Rattle.yaml_stream.specs.Waits.{waits-total}
+use Rattle.yaml_stream.specs.Changes.{behind-by, fresh-decoded, give-fewer, stepped-by}
+use Rattle.yaml_stream.specs.Alone.{Absents, absents-drop}
+use Rattle.yaml_stream.specs.Waiting.{StreamReaches, call-reaches, here, reaches-by}
 use Rattle.yaml_stream.specs.Answers.{refused-stays}
 use Rattle.yaml_stream.specs.Numbers.{OfRule}
-use Rattle.yaml_stream.specs.InList.{comma-stays, next-choice, scalar-stays}
-use Rattle.yaml_stream.specs.OnKeyLine.{KeyLine, colon-uses, opens-list}
+use Rattle.yaml_stream.specs.InList.{comma-stays, few-crowded, next-choice, none-crowded, none-waits, scalar-stays}
+use Rattle.yaml_stream.specs.OnKeyLine.{KeyLine, bracket-none, colon-none}
 use Rattle.yaml_job.specs.Job.{follow, job}
 use Rattle.yaml_job.specs.Shape.{Shape}
 use Rattle.yaml_job.specs.Reads.{ends-done}
@@ -64,7 +61,8 @@ Over (got (goes-on es s)) = ⊥
 Over (got (ends-with es)) = Unit {0}
 Over (refused n m) = Unit {0}
 
--- the run of a text that has one list on its key's line. Its steps say at most c tokens before the key's ':' (StreamStart is said before them), and at most c behind the entries
+-- the run of a text that has one list on its key's line. Its steps say at most c tokens before the key's ':' (StreamStart is said before them),
+-- and at most c behind the entries
 pub record OneList (limits : Limits) (c : ℕ) (bytes : List ℕ) : Type 0 where
   pub characters : List ℕ
   pub decoded : decode 0 origin bytes ≡ got characters
@@ -77,21 +75,28 @@ pub record OneList (limits : Limits) (c : ℕ) (bytes : List ℕ) : Type 0 where
   -- however many entries
   pub last : State
   pub items : Items limits false first last
-  -- the rest, from the closing bracket on, up to the last step, in which the text ends or a rule is broken. (Nothing here asks for the bracket: any rest of c tokens will do)
+  -- the rest, from the closing bracket on, up to the last step, in which the text ends or a rule is broken.
+  -- (Nothing here asks for the bracket: any rest of c tokens will do)
   pub final : State
   pub after : Says limits c last final
   pub over : Over (step limits final)
 
+-- the run from a state to the text's end
+
+abbrev pub run-from : Limits → State → Outcome
+run-from limits s = run limits (suc (left (s .place))) s
+
+pub run-on : (limits : Limits) (s t : State) (es : List Event) → step limits s ≡ got (goes-on es t) → run-from limits s ≡ after-events es (run-from limits t)
+unfolding run
+run-on limits s t es e = rw (e, run) (ap (λ (o : Outcome). after-events es o) (run-enough limits (left (s .place)) t (all-got (step-news [] limits s) e .takes)))
+
 -- a rule's number is none of the stream's: it is what stops the whole text
 
 abbrev Ruled : Limits → State → Type 0
-Ruled limits s = (n : ℕ) (m : Mark) → run limits (suc (left (s .place))) s ≡ stopped n m → OfRule n
+Ruled limits s = (n : ℕ) (m : Mark) → run-from limits s ≡ stopped n m → OfRule n
 
 ruled-on : (limits : Limits) (s t : State) (es : List Event) → step limits s ≡ got (goes-on es t) → Ruled limits s → Ruled limits t
-unfolding run
-ruled-on limits s t es e h n m f =
-    let r = run-enough limits (left (s .place)) t (all-got (step-news [] limits s) e .takes) ∙ f in
-    h n m (rw (e, run) (ap (λ (o : Outcome). after-events es o) r))
+ruled-on limits s t es e h n m f = h n m (run-on limits s t es e ∙ ap (λ (o : Outcome). after-events es o) f)
 
 ruled-here : (limits : Limits) (s : State) (n : ℕ) (m : Mark) → step limits s ≡ refused n m → Ruled limits s → n ≡ too-many-wait → ⊥
 unfolding run
@@ -104,57 +109,6 @@ ruled-here limits s n m e h z = by-rule (h n m (rw (e, run)))
 ruled-begin : (limits : Limits) (bytes cs : List ℕ) → ltb (limits .bytes) (length bytes) ≡ false → decode 0 origin bytes ≡ got cs → Ruled limits (begin cs)
 unfolding outcome scan
 ruled-begin limits bytes cs b d n m e = has-rule limits bytes n m (rw (b, d, outcome) (rw e))
-
--- over a gap no candidate comes (as in OnKeyLine, which keeps this law to itself)
-
-lapse-none : (m : Mark) (ks : List Candidate) → Absents ks → All Candidate (λ c. c ≡ Absent) (lapse m (top-key ks))
-unfolding lapse top-key
-lapse-none m [] h = holds refl
-lapse-none m (Absent ∷ ks) h = holds refl
-lapse-none m (Possible required k i ∷ ks) h = absurd h
-
-lapse-absents : (s : State) (p : Place) (leads b : Bool) → Absents (s .keys) → All State (λ v. Absents (v .keys)) (lapse-key (at-place p leads (allow b s)))
-unfolding lapse-key in-flow
-lapse-absents s p leads b h =
-    by-test (in-flow s)
-    (λ e. rw (e, lapse-key) (holds {a = at-place p leads (allow b s)} h))
-    (λ e. rw (e, lapse-key) (all-is _ (lapse-none (p .mark) (s .keys) h) (holds {a = with-keys (set-key Absent (s .keys)) (at-place p leads (allow b s))} (absents-drop (s .keys) h))))
-
-gap-absents : (s : State) → Absents (s .keys) → All State (λ v. Absents (v .keys)) (to-next-token s)
-unfolding to-next-token
-gap-absents s h = all-bind _ (all-any _) (λ g _. lapse-absents s (g .place) (g .leading-whitespace) (g .simple-key-allowed) h)
-
--- no key is possible behind the ':', nor behind the bracket
-
-colon-none : {limits : Limits} {s u : State} (l : KeyLine limits s u) → Absents (l .value .keys)
-colon-none {limits} {s} l =
-    let c = all-got (colon-uses limits s (l .at-colon) (l .required) (l .number) (l .mark) (l .first-gap) (l .colon) (l .candidate)) (l .first-step) in
-    rw (c .1) (l .alone (l .outside))
-
-bracket-none : {limits : Limits} {s u : State} (l : KeyLine limits s u) → (in-flow u ≡ true) × Absents (u .keys)
-bracket-none {limits} l =
-    let h = all-got (gap-absents (l .value) (colon-none l)) (l .second-gap) in
-    all-got (opens-list limits (l .sequence) (l .value) (l .at-bracket) (l .second-gap) (l .bracket) (l .forbidden) h) (l .second-step)
-
--- where none is possible a step begins with none waiting
-none-waits : (s : State) (n used : ℕ) (xs : List Slot) → Absents (s .keys) → ready (scanning s n xs used) ≡ false → length (flat xs) ≡ 0
-unfolding ready flat
-none-waits s n used [] a r = refl
-none-waits s n used (x ∷ xs) a r = true-false (rw (absents-not n (s .keys) a) at r)
-
--- no 51 behind a step: none is possible, or few wait
-
-free-none : (s : State) (n : ℕ) (xs : List Slot) → Absents (s .keys) → crowded s n xs ≡ false
-unfolding crowded
-free-none s n xs a = rw (absents-not n (s .keys) a) (and-false (ltb most-waiting (length (flat xs))))
-  where
-    and-false : (b : Bool) → (b && false) ≡ false
-    and-false true = refl
-    and-false false = refl
-
-free-few : (s : State) (n : ℕ) (xs : List Slot) → length (flat xs) ≤ most-waiting → crowded s n xs ≡ false
-unfolding crowded
-free-few s n xs b = rw (le-ltb most-waiting (length (flat xs)) (omega arith))
 
 module _ {limits : Limits} {c : ℕ} {bytes : List ℕ} (l : OneList limits c bytes) where
   -- where on its run a stream stands, and what waits then
@@ -176,33 +130,12 @@ module _ {limits : Limits} {c : ℕ} {bytes : List ℕ} (l : OneList limits c by
   On (closing xs) = Unit {0}
   On (broken k m) = k ≡ too-many-wait → ⊥
 
-  -- a token is given: fewer wait
-
+  -- while fewer wait
   stage-fewer : {s : State} {xs : List Slot} (ys : List Slot) → length (flat ys) ≤ length (flat xs) → Stage s xs → Stage s ys
   stage-fewer ys b (outside o h w) = outside {xs = ys} o h (omega arith)
   stage-fewer ys b at-bracket = at-bracket
   stage-fewer ys b (at-entry h f a) = at-entry h f a
   stage-fewer ys b (behind-scalar h f a w) = behind-scalar {xs = ys} h f a (omega arith)
-
-  first-on : (s : State) (n : ℕ) (bs : List Token) (t : Token) (xs : List Slot) (used : ℕ) → Stage s (slot t bs ∷ xs) → Ruled limits s
-      → On (first-of (λ k ys. scanning s k ys used) n bs t xs .stream)
-  unfolding first-of
-  first-on s n [] t xs used h r = (stage-fewer xs (omega (arith, flat-length (slot t []) xs)) h, r)
-  first-on s n (b ∷ bs) t xs used h r = (stage-fewer (slot t bs ∷ xs) (omega (arith, flat-length (slot t (b ∷ bs)) xs, flat-length (slot t bs) xs)) h, r)
-
-  first-closed : (bs : List Token) (t : Token) (xs : List Slot) → On (first-of (λ _ ys. closing ys) 0 bs t xs .stream)
-  unfolding first-of
-  first-closed [] t xs = tt
-  first-closed (b ∷ bs) t xs = tt
-
-  give-on : (x : Stream) → On x → On (give x .stream)
-  unfolding give
-  give-on (scanning s n [] used) h = h
-  give-on (scanning s n (x ∷ xs) used) h =
-      by-test (possible n (s .keys)) (λ e. rw (e, give) h) (λ e. rw (e, give) (first-on s n (x .before) (x .token) xs used (h .0) (h .1)))
-  give-on (closing []) h = tt
-  give-on (closing (x ∷ xs)) h = first-closed (x .before) (x .token) xs
-  give-on (broken k m) h = h
 
   -- a step
 
@@ -215,76 +148,61 @@ module _ {limits : Limits} {c : ℕ} {bytes : List ℕ} (l : OneList limits c by
   module _ (room n used : ℕ) (few : c < most-waiting) where
     goes : (s : State) {t : State} (xs : List Slot) {es : List Event} → step limits s ≡ got (goes-on es t) → Ruled limits s → crowded t n (waits n xs es) ≡ false
         → Stage t (waits n xs es) → On (after-news room n xs used (step limits s))
-    unfolding behind
     goes s {t} xs {es} e r f h =
-        rw e (by-test (ltb room (used + brings es)) (λ i. rw (i, behind) (λ z. omega arith)) (λ i. rw (i, f, behind) (h, ruled-on limits s t es e r)))
+        rw e (behind-by On room t n (waits n xs es) _ (λ z. omega arith) (λ i. true-false (sym i ∙ f)) (λ _. (h, ruled-on limits s t es e r)))
 
     over-on : (s : State) (xs : List Slot) (a : Read News) → step limits s ≡ a → Ruled limits s → Over a → On (after-news room n xs used a)
     over-on s xs (got (goes-on es t)) e r o = absurd o
     over-on s xs (got (ends-with es)) e r o = tt
     over-on s xs (refused k m) e r o = ruled-here limits s k m e r
 
-    outside-steps : {s t : State} (xs : List Slot) {d : ℕ} → Leads t → Says limits d s t → length (flat xs) + d ≤ suc c → Ruled limits s → On (after-news room n xs used (step limits s))
+    outside-steps : {s t : State} (xs : List Slot) {d : ℕ} → Leads t → Says limits d s t → length (flat xs) + d ≤ suc c → Ruled limits s
+        → On (after-news room n xs used (step limits s))
     outside-steps xs to-key no-step w r =
-        goes (l .key) xs (l .line .first-step) r (free-none (l .line .value) n (waits n xs (l .line .first-events)) (colon-none (l .line))) at-bracket
+        goes (l .key) xs (l .line .first-step) r (none-crowded (l .line .value) n (waits n xs (l .line .first-events)) (colon-none (l .line))) at-bracket
     outside-steps xs to-end no-step w r = over-on (l .final) xs (step limits (l .final)) refl r (l .over)
     outside-steps {s} xs o (a-step {d = d} {t = t} {es = es} e b h) w r =
         let ys = waits n xs es in
         let k : length (flat ys) + d ≤ suc c = omega (arith, waits-total n xs es) in
-        goes s xs e r (free-few t n ys (omega arith)) (outside o h k)
+        goes s xs e r (few-crowded t n ys (omega arith)) (outside o h k)
 
-    comma-steps : (s : State) {t : State} (xs : List Slot) {es : List Event} → next-choice s ≡ got AtComma → step limits s ≡ got (goes-on es t) → Items limits false t (l .last)
-        → in-flow s ≡ true → Absents (drop 1 (s .keys)) → Ruled limits s → On (after-news room n xs used (step limits s))
+    comma-steps : (s : State) {t : State} (xs : List Slot) {es : List Event} → next-choice s ≡ got AtComma → step limits s ≡ got (goes-on es t)
+        → Items limits false t (l .last) → in-flow s ≡ true → Absents (drop 1 (s .keys)) → Ruled limits s → On (after-news room n xs used (step limits s))
     comma-steps s {t} xs {es} i e h f a r =
         let k = all-got (comma-stays limits s f i) e in
-        goes s xs e r (free-none t n (waits n xs es) (k .1 a)) (at-entry h (k .0 .flows) (k .1 a))
+        goes s xs e r (none-crowded t n (waits n xs es) (k .1 a)) (at-entry h (k .0 .flows) (k .1 a))
 
     stage-steps : {s : State} {xs : List Slot} → Stage s xs → Ruled limits s → ready (scanning s n xs used) ≡ false → On (after-news room n xs used (step limits s))
     stage-steps {xs = xs} (outside o h w) r b = outside-steps xs o h w r
     stage-steps {s} {xs} at-bracket r b =
         let k = bracket-none (l .line) in
-        goes s xs (l .line .second-step) r (free-none (l .first) n (waits n xs (l .line .second-events)) (k .1)) (at-entry (l .items) (k .0) (k .1))
+        goes s xs (l .line .second-step) r (none-crowded (l .first) n (waits n xs (l .line .second-events)) (k .1)) (at-entry (l .items) (k .0) (k .1))
     stage-steps {s} {xs} (at-entry no-item f a) r b = outside-steps xs to-end (l .after) (omega (arith, none-waits s n used xs a b)) r
     stage-steps {s} {xs} (at-entry (a-scalar {t = t} {es = es} i e h) f a) r b =
         let k = all-got (scalar-stays limits s f i) e in
         let ys = waits n xs es in
         let w : length (flat ys) ≤ 1 = omega (arith, waits-total n xs es, none-waits s n used xs a b, k .says) in
-        goes s xs e r (free-few t n ys (omega arith)) (behind-scalar h (k .flows) (k .outer (absents-drop (s .keys) a)) w)
+        goes s xs e r (few-crowded t n ys (omega arith)) (behind-scalar h (k .flows) (k .outer (absents-drop (s .keys) a)) w)
     stage-steps {s} {xs} (at-entry (a-comma i e h) f a) r b = comma-steps s xs i e h f (absents-drop (s .keys) a) r
     stage-steps {xs = xs} (behind-scalar no-item f a w) r b = outside-steps xs to-end (l .after) (omega arith) r
     stage-steps {s} {xs} (behind-scalar (a-comma i e h) f a w) r b = comma-steps s xs i e h f a r
 
   module _ (words room : ℕ) (few : c < most-waiting) where
-    stepped-on : (x : Stream) → On x → ready x ≡ false → On (stepped limits room x)
-    unfolding stepped
-    stepped-on (scanning s n xs used) h b = stage-steps room n used few (h .0) (h .1) b
-    stepped-on (closing xs) h b = tt
-    stepped-on (broken k m) h b = h
-
-    -- a fresh state
-
-    begun-on : Ruled limits (begin (l .characters)) → On (begun words (l .characters))
-    unfolding begun flat
-    begun-on r =
-        by-test (ltb (words / record-words) least-records)
-        (λ e. rw (e, begun) (λ z. omega arith))
-        (λ e. rw (e, begun) (outside {xs = slot (empty-token StreamStart origin) [] ∷ []} to-key (l .before) (omega arith), r))
-
     fresh-on : On (fresh limits bytes words)
-    unfolding fresh
+    unfolding flat
     fresh-on =
-        by-test (ltb (limits .bytes) (length bytes))
-        (λ e. rw (e, fresh) (λ z. omega arith))
-        (λ e. rw (e, l .decoded, fresh) (begun-on (ruled-begin limits bytes (l .characters) e (l .decoded))))
+        fresh-decoded On limits bytes words (λ z. omega arith) (λ z. omega arith) (l .characters) (l .decoded)
+        (λ e. (outside to-key (l .before) (omega arith), ruled-begin limits bytes (l .characters) e (l .decoded)))
 
     reaches-on : {y : Stream} → StreamReaches limits room (fresh limits bytes words) y → On y
-    reaches-on here = fresh-on
-    reaches-on (then-step {y = y} r b) = stepped-on y (reaches-on r) b
-    reaches-on (then-give {y = y} r) = give-on y (reaches-on r)
+    reaches-on r =
+        reaches-by On limits room
+        (λ x h e. stepped-by On limits room (λ s n xs used i f. stage-steps room n used few (i .0) (i .1) f) x h e)
+        (λ x h. give-fewer On (λ s n k used xs ys b i. (stage-fewer ys b (i .0), i .1)) (λ xs. tt) x h) fresh-on r
 
     -- whatever words and bytes are lent: before each step at most c + 1 tokens wait, in a list of any length
-    pub one-list-waits : {s : State} {n used : ℕ} {xs : List Slot} → StreamReaches limits room (fresh limits bytes words) (scanning s n xs used) → ready (scanning s n xs used) ≡ false
-        → length (flat xs) ≤ suc c
+    pub one-list-waits : {s : State} {n used : ℕ} {xs : List Slot} → StreamReaches limits room (fresh limits bytes words) (scanning s n xs used)
+        → ready (scanning s n xs used) ≡ false → length (flat xs) ≤ suc c
     one-list-waits {n = n} {used = used} r b = stage-waits n used (reaches-on r .0) b
 
     -- and 51 is not met

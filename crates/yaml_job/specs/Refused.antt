@@ -26,7 +26,8 @@ use Rattle.yaml_job.specs.declared.ShapePlace.the-variants.{AtEnd, AtEnt
 use Rattle.yaml_job.specs.Job.{all-met, behind-value, effect, end-of, has, holds, is, is-scalar, kind-number, meets, named, no-place, none-met, placed, seed-of, sight, spelled, wants}
 use Rattle.yaml_job.specs.Shape.{Is, IsScalar, IsSeed, Names, Shape}
 use Rattle.yaml_job.specs.Seen.{Bare, is-a-scalar, is-kind, is-seed}
-use Rattle.yaml_job.specs.Reads.{Judgement, after-effect, end-by, judged, name-fits, seed-fits, seed-seen, shape-done, stops}
+use Rattle.yaml_job.specs.Reads.{Judgement, after-effect, end-by, judged, seed-seen, stops}
+use Rattle.yaml_job.specs.Fits.{name-fits, seed-fits, shape-done}
 
 -- tokens that fit, from a place to a place
 pub data Walks : ShapePlace → Met → List Token → ShapePlace → Met → Type 0 where

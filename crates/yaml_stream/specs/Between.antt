@@ -1,6 +1,6 @@
 -- Between two calls no token that waits is a possible key but the last, the candidate of one level, before which nothing goes in yet.
 -- So where a call has to scan, nothing waits, or that token alone.
-use Prim.Native.Nat.{_+_, _/_, _<_, _≤_, suc, zero, ℕ}
+use Prim.Native.Nat.{_+_, _<_, _≤_, suc, zero, ℕ}
 use mathlib.Core.Bool.{false, true}
 use mathlib.Core.List.{List, [], _++_, _∷_}
 use mathlib.Core.Logic.{_⊎_, inl, inr}
@@ -12,19 +12,18 @@ use lib.ListN.{drop, length, length-append}
 use borrow.Author.Tests.{ltb-false, ltb-true, ne-eqb}
 use Rattle.yaml_text.specs.Mark.{origin}
 use Rattle.yaml_text.specs.Refusal.{Read, got, refused}
-use Rattle.yaml_text.specs.Decode.{decode}
 use Rattle.yaml_text.specs.Test.{by-test, true-false}
 use Rattle.yaml_text.specs.All.{all-got}
 use Rattle.yaml_lexeme.specs.Token.{StreamStart, Token, empty-token}
-use Rattle.yaml_lexeme.specs.Record.{record-words}
 use Rattle.yaml_scan.specs.declared.Candidate.{Candidate}
 use Rattle.yaml_scan.specs.declared.Candidate.the-variants.{Absent, Possible}
 use Rattle.yaml_scan.specs.declared.Limits.{Limits}
 use Rattle.yaml_scan.specs.State.{Event, News, State, ends-with, goes-on}
 use Rattle.yaml_scan.specs.Scan.{begin, step}
 use Rattle.yaml_scan.specs.Slots.{Slot, slot}
-use Rattle.yaml_stream.specs.Stream.{Called, Stream, after-news, begun, behind, broken, budget, call, closing, crowded, first-of, fresh, give, least-records, possible, ready, scanning, sought, stepped, token, waits}
+use Rattle.yaml_stream.specs.Stream.{Called, Stream, after-news, behind, broken, budget, call, closing, fresh, give, possible, ready, scanning, sought, stepped, waits}
 use Rattle.yaml_stream.specs.Kept.{From}
+use Rattle.yaml_stream.specs.Changes.{behind-by, fresh-by, give-by}
 use Rattle.yaml_stream.specs.Alone.{LastOf, step-last}
 use Rattle.yaml_stream.specs.Waiting.{Held, StreamKeeps, StreamReaches, call-reaches, here as at-once, holds-before, not-false, reaches-keeps, stepped-keeps, waits-then}
 use Rattle.yaml_stream.specs.Answers.{Comes, here, then-call}
@@ -156,24 +155,9 @@ between-drop {n = n} k i {xs = xs} h = record { level = h .level; others-not = h
     bare-drop (suc j) [] b = inl refl
     bare-drop (suc j) (y ∷ ys) b = bare-drop j ys (bare-rest y ys b)
 
-first-between : (s : State) (n : ℕ) (bs : List Token) (t : Token) (xs : List Slot) (used : ℕ) → BetweenIn (scanning s n (slot t bs ∷ xs) used) → BetweenIn (first-of (λ k ys. scanning s k ys used) n bs t xs .stream)
-unfolding first-of
-first-between s n [] t xs used h = (h .0, between-given (h .1))
-first-between s n (b ∷ bs) t xs used h = (h .0, between-part (h .1))
-
-first-closes : (bs : List Token) (t : Token) (xs : List Slot) → BetweenIn (first-of (λ _ ys. closing ys) 0 bs t xs .stream)
-unfolding first-of
-first-closes [] t xs = tt
-first-closes (b ∷ bs) t xs = tt
-
 pub give-between : (x : Stream) → BetweenIn x → BetweenIn (give x .stream)
-unfolding give
-give-between (scanning s n [] used) h = h
-give-between (scanning s n (x ∷ xs) used) h =
-    by-test (possible n (s .keys)) (λ e. rw (e, give) h) (λ e. rw (e, give) (first-between s n (x .before) (x .token) xs used h))
-give-between (closing []) h = tt
-give-between (closing (x ∷ xs)) h = first-closes (x .before) (x .token) xs
-give-between (broken k m) h = tt
+give-between x h =
+    give-by BetweenIn (λ s n used b bs t xs k. (k .0, between-part (k .1))) (λ s n used t xs e k. (k .0, between-given (k .1))) (λ b bs t xs k. tt) (λ t xs k. tt) x h
 
 -- a call
 
@@ -191,11 +175,7 @@ pauses-mid s t n xs es used (inl p) = inl (still-first t n (waits n xs es) used 
 pauses-mid s t n xs es used (inr b) = inr (length (s .levels), b)
 
 behind-mid : (room : ℕ) (s : State) (n : ℕ) (xs : List Slot) (used : ℕ) → MidIn (scanning s n xs used) → MidIn (behind room s n xs used)
-unfolding behind
-behind-mid room s n xs used h =
-    by-test (ltb room used)
-    (λ e. rw (e, behind) (inr tt))
-    (λ e. by-test (crowded s n xs) (λ f. rw (e, f, behind) (inr tt)) (λ f. rw (e, f, behind) h))
+behind-mid room s n xs used h = behind-by MidIn room s n xs used (inr tt) (λ _. inr tt) (λ _. h)
 
 stepped-mid : (limits : Limits) (room : ℕ) (x : Stream) → StreamKeeps limits x → ready x ≡ false → MidIn (stepped limits room x)
 unfolding stepped
@@ -232,19 +212,8 @@ pub begin-between : (l : ℕ) (cs : List ℕ) → BetweenCalls l (begin cs) 0 (s
 begin-between l cs =
     record { level = λ i. on-absents i l (Absent ∷ []) tt; others-not = λ i b. absurd (omega arith); bare = inr (record { others = []; last = empty-token StreamStart origin; is = refl }) }
 
-begun-between : (words : ℕ) (cs : List ℕ) → BetweenIn (begun words cs)
-unfolding begun
-begun-between words cs =
-    by-test (ltb (words / record-words) least-records) (λ e. rw (e, begun) tt) (λ e. rw (e, begun) (0, begin-between 0 cs))
-
 pub fresh-between : (limits : Limits) (bytes : List ℕ) (words : ℕ) → BetweenIn (fresh limits bytes words)
-unfolding fresh
-fresh-between limits bytes words =
-    by-test (ltb (limits .bytes) (length bytes)) (λ e. rw (e, fresh) tt) (λ e. rw (e, fresh) (by-text (decode 0 origin bytes)))
-  where
-    by-text : (r : Read (List ℕ)) → BetweenIn (elim r [ got cs ↦ begun words cs | refused k m ↦ broken k m ])
-    by-text (got cs) = begun-between words cs
-    by-text (refused k m) = tt
+fresh-between limits bytes words = fresh-by BetweenIn limits bytes words tt tt (λ k m. tt) (λ cs _. (0, begin-between 0 cs))
 
 -- and so in every stream behind whole calls
 

@@ -1,6 +1,6 @@
 -- A list that opens on its key's line (OnKeyLine) is no candidate: its entries are given as they come, at most 4 tokens wait, and 51 is not met, however long it is.
-use Prim.Native.Nat.{_+_, _≤_, ℕ}
-use mathlib.Core.Bool.{Bool, _&&_, false, true}
+use Prim.Native.Nat.{_≤_, ℕ}
+use mathlib.Core.Bool.{Bool, and-false, false, true}
 use mathlib.Core.List.{List, [], _++_, _∷_}
 use mathlib.Core.Logic.{_⊎_, inl, inr}
 use mathlib.Core.Path.{_∙_, _≡_, ap, refl}
@@ -11,7 +11,7 @@ use borrow.Author.Tests.{le-ltb}
 use Rattle.yaml_text.specs.declared.Mark.{Mark}
 use Rattle.yaml_text.specs.Mark.{Place}
 use Rattle.yaml_text.specs.Refusal.{Read, _>>=_, got}
-use Rattle.yaml_text.specs.Test.{by-pick, by-test, true-false}
+use Rattle.yaml_text.specs.Test.{by-pick, true-false}
 use Rattle.yaml_text.specs.All.{All, all-any, all-bind, all-got, all-need, holds, not-read}
 use Rattle.yaml_lexeme.specs.Token.{FlowMappingEnd, Token}
 use Rattle.yaml_lexeme.specs.Plain.{scan-plain-scalar}
@@ -24,13 +24,14 @@ use Rattle.yaml_scan.specs.Bracket.{fetch-flow-collection-end, fetch-flow-entry
 use Rattle.yaml_scan.specs.Choice.{choice}
 use Rattle.yaml_scan.specs.Fetch.{fetch, fetch-plain-scalar}
 use Rattle.yaml_scan.specs.Scan.{step, to-next-token, unrolled}
-use Rattle.yaml_scan.specs.Slots.{Slot, flat, slot}
+use Rattle.yaml_scan.specs.Slots.{Slot, flat}
 use Rattle.yaml_scan.specs.SlotLaws.{total}
 use Rattle.yaml_scan.specs.Steps.{one-most, unrolled-state}
 use Rattle.yaml_scan.specs.Budget.{on-news}
 use Rattle.theorems.specs.NestingSteps.{unrolled-in}
-use Rattle.yaml_stream.specs.Stream.{Stream, after-news, behind, broken, closing, crowded, first-of, give, most-waiting, possible, ready, scanning, stepped, waits}
-use Rattle.yaml_stream.specs.Waits.{flat-length, waits-total}
+use Rattle.yaml_stream.specs.Stream.{Stream, after-news, behind, broken, closing, crowded, give, most-waiting, ready, scanning, stepped, waits}
+use Rattle.yaml_stream.specs.Waits.{waits-total}
+use Rattle.yaml_stream.specs.Changes.{behind-by, give-fewer}
 use Rattle.yaml_stream.specs.Totals.{total-if, total-then}
 use Rattle.yaml_stream.specs.Alone.{Absents, absents-not}
 use Rattle.yaml_stream.specs.Opened.{level-flow}
@@ -167,44 +168,27 @@ listed-fewer s xs ys l h = record { flows = h .flows; outer = h .outer; few = by
     by-few (inl b) = inl (omega arith)
     by-few (inr b) = inr (b .0, omega (arith, b .1))
 
-first-listed : (s : State) (n : ℕ) (bs : List Token) (t : Token) (xs : List Slot) (used : ℕ) → Listed s (slot t bs ∷ xs) → InList (first-of (λ k ys. scanning s k ys used) n bs t xs .stream)
-unfolding first-of
-first-listed s n [] t xs used h = listed-fewer s (slot t [] ∷ xs) xs (omega (arith, flat-length (slot t []) xs)) h
-first-listed s n (b ∷ bs) t xs used h =
-    listed-fewer s (slot t (b ∷ bs) ∷ xs) (slot t bs ∷ xs) (omega (arith, flat-length (slot t (b ∷ bs)) xs, flat-length (slot t bs) xs)) h
-
-first-closed : (bs : List Token) (t : Token) (xs : List Slot) → InList (first-of (λ _ ys. closing ys) 0 bs t xs .stream)
-unfolding first-of
-first-closed [] t xs = tt
-first-closed (b ∷ bs) t xs = tt
-
 give-listed : (x : Stream) → InList x → InList (give x .stream)
-unfolding give
-give-listed (scanning s n [] used) h = h
-give-listed (scanning s n (x ∷ xs) used) h =
-    by-test (possible n (s .keys)) (λ e. rw (e, give) h) (λ e. rw (e, give) (first-listed s n (x .before) (x .token) xs used h))
-give-listed (closing []) h = tt
-give-listed (closing (x ∷ xs)) h = first-closed (x .before) (x .token) xs
-give-listed (broken k m) h = tt
+give-listed x h = give-fewer InList (λ s n k used xs ys l i. listed-fewer s xs ys l i) (λ xs. tt) x h
 
 -- a step
 
 behind-listed : (room : ℕ) (s : State) (n : ℕ) (xs : List Slot) (used : ℕ) → Listed s xs → InList (behind room s n xs used)
-unfolding behind
-behind-listed room s n xs used h =
-    by-test (ltb room used)
-    (λ e. rw (e, behind) tt)
-    (λ e. by-test (crowded s n xs) (λ f. rw (e, f, behind) tt) (λ f. rw (e, f, behind) h))
+behind-listed room s n xs used h = behind-by InList room s n xs used tt (λ _. tt) (λ _. h)
+
+-- where no key is possible a step begins with none waiting
+pub none-waits : (s : State) (n used : ℕ) (xs : List Slot) → Absents (s .keys) → ready (scanning s n xs used) ≡ false → length (flat xs) ≡ 0
+unfolding ready flat
+none-waits s n used [] a r = refl
+none-waits s n used (x ∷ xs) a r = true-false (rw (absents-not n (s .keys) a) at r)
 
 -- so at most 2 wait before a step
 few-before : (s : State) (n used : ℕ) (xs : List Slot) → Listed s xs → ready (scanning s n xs used) ≡ false → length (flat xs) ≤ 2
-unfolding ready flat
-few-before s n used [] h r = omega arith
-few-before s n used (x ∷ xs) h r = by-few (h .few)
+few-before s n used xs h r = by-few (h .few)
   where
-    by-few : (length (flat (x ∷ xs)) ≤ 2) ⊎ (Absents (s .keys) × (length (flat (x ∷ xs)) ≤ 4)) → length (flat (x ∷ xs)) ≤ 2
+    by-few : (length (flat xs) ≤ 2) ⊎ (Absents (s .keys) × (length (flat xs) ≤ 4)) → length (flat xs) ≤ 2
     by-few (inl b) = b
-    by-few (inr b) = true-false (rw (absents-not n (s .keys) (b .0)) at r)
+    by-few (inr b) = omega (arith, none-waits s n used xs (b .0) r)
 
 pub scalar-listed : (s : State) (n : ℕ) (xs : List Slot) (es : List Event) (t : State) → Listed s xs → length (flat xs) ≡ 0 → Stays 1 s es t → Listed t (waits n xs es)
 scalar-listed s n xs es t h z k = record { flows = k .flows; outer = k .outer (h .outer); few = inl (omega (arith, waits-total n xs es, k .says)) }
@@ -230,6 +214,16 @@ lists-in limits room h (then-comma {s = s} {n = n} {used = used} {xs = xs} r e c
     on-news (λ w. InList (after-news room n xs used w)) (comma-stays limits s (k .flows) c)
     (λ es t i. behind-listed room t n (waits n xs es) _ (comma-listed s n used xs es t k e i)) (λ _ _. tt) (λ _ _. tt)
 
+-- where none is possible, or few wait, a step is no 51
+
+pub none-crowded : (s : State) (n : ℕ) (xs : List Slot) → Absents (s .keys) → crowded s n xs ≡ false
+unfolding crowded
+none-crowded s n xs a = rw (absents-not n (s .keys) a) (and-false (ltb most-waiting (length (flat xs))))
+
+pub few-crowded : (s : State) (n : ℕ) (xs : List Slot) → length (flat xs) ≤ most-waiting → crowded s n xs ≡ false
+unfolding crowded
+few-crowded s n xs b = rw (le-ltb most-waiting (length (flat xs)) b)
+
 -- at most 4 wait, so the step that came to them was no 51
 
 pub listed-few : (s : State) (xs : List Slot) → Listed s xs → length (flat xs) ≤ 4
@@ -239,9 +233,8 @@ listed-few s xs h = by-few (h .few)
     by-few (inl b) = omega arith
     by-few (inr b) = b .1
 
-pub not-crowded : (s : State) (n : ℕ) (xs : List Slot) → length (flat xs) ≤ 4 → crowded s n xs ≡ false
-unfolding crowded
-not-crowded s n xs b = rw (le-ltb most-waiting (length (flat xs)) (omega arith))
+listed-crowded : (s : State) (n : ℕ) (xs : List Slot) → Listed s xs → crowded s n xs ≡ false
+listed-crowded s n xs h = few-crowded s n xs (omega (arith, listed-few s xs h))
 
 pub four-wait : (limits : Limits) (room : ℕ) {x : Stream} {s : State} {n used : ℕ} {xs : List Slot} → InList x → Lists limits room x (scanning s n xs used) → length (flat xs) ≤ 4
 four-wait limits room {s = s} {xs = xs} h r = listed-few s xs (lists-in limits room h r)
@@ -251,13 +244,13 @@ pub scalar-no-51 : (limits : Limits) (room : ℕ) {x : Stream} {s : State} {n us
 unfolding flat
 scalar-no-51 limits room {s = s} {n = n} h r c es t e =
     let k = lists-in limits room h r in
-    not-crowded t n (waits n [] es) (listed-few t (waits n [] es) (scalar-listed s n [] es t k refl (all-got (scalar-stays limits s (k .flows) c) e)))
+    listed-crowded t n (waits n [] es) (scalar-listed s n [] es t k refl (all-got (scalar-stays limits s (k .flows) c) e))
 
 pub comma-no-51 : (limits : Limits) (room : ℕ) {x : Stream} {s : State} {n used : ℕ} {xs : List Slot} → InList x → Lists limits room x (scanning s n xs used)
     → ready (scanning s n xs used) ≡ false → next-choice s ≡ got AtComma → (es : List Event) (t : State) → step limits s ≡ got (goes-on es t) → crowded t n (waits n xs es) ≡ false
 comma-no-51 limits room {s = s} {n = n} {used = used} {xs = xs} h r f c es t e =
     let k = lists-in limits room h r in
-    not-crowded t n (waits n xs es) (listed-few t (waits n xs es) (comma-listed s n used xs es t k f (all-got (comma-stays limits s (k .flows) c) e)))
+    listed-crowded t n (waits n xs es) (comma-listed s n used xs es t k f (all-got (comma-stays limits s (k .flows) c) e))
 
 -- the list's end: no candidate is left, so all that waits is given
 
@@ -277,11 +270,6 @@ close-fetched limits sequence s v f =
 
 pub close-no-51 : (limits : Limits) (sequence : Bool) (s : State) (n : ℕ) (xs : List Slot) → Listed s xs → next-choice s ≡ got (Closes sequence)
     → (es : List Event) (t : State) → step limits s ≡ got (goes-on es t) → crowded t n (waits n xs es) ≡ false
-unfolding crowded
 close-no-51 limits sequence s n xs h c es t e =
     let a = all-got (step-at {P = Closing s} limits s (Closes sequence) c (gap-flows s (h .flows)) (λ v f. close-fetched limits sequence s v f)) e in
-    rw (absents-not n (t .keys) (a (h .outer))) (and-false (ltb most-waiting (length (flat (waits n xs es)))))
-  where
-    and-false : (b : Bool) → (b && false) ≡ false
-    and-false true = refl
-    and-false false = refl
+    none-crowded t n (waits n xs es) (a (h .outer))

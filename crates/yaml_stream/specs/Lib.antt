@@ -6,6 +6,7 @@ pub mod Tale
 pub mod Sizes
 pub mod Silent
 pub mod Waits
+pub mod Changes
 pub mod Seeks
 pub mod Given
 pub mod Answers
@@ -29,4 +30,5 @@ pub mod Spare
 pub mod Tight
 pub mod InList
 pub mod OnKeyLine
+pub mod SeedList
 pub mod Sheet

@@ -1,18 +1,14 @@
 -- In every stream that calls come to, what waits is made of notes, each noted once: for steps put in notes, before tokens that wait and have none, and a call takes them from the front.
-use Prim.Native.Nat.{_+_, _/_, _≤_, suc, ℕ}
+use Prim.Native.Nat.{_+_, _≤_, suc, ℕ}
 use mathlib.Core.List.{List, [], _∷_, map}
 use mathlib.Core.Path.{_∙_, _≡_, ap, refl, sym}
 use native.Mathlib.Omega.{arith}
-use lib.Dec.{ltb}
 use lib.ListN.{drop, length}
 use lib.Seq.{drop-drop}
-use Rattle.yaml_text.specs.Refusal.{Read, got, refused}
 use Rattle.yaml_text.specs.Mark.{origin}
-use Rattle.yaml_text.specs.DecodeLaws.{Decodes, NoNul, decode-is}
-use Rattle.yaml_text.specs.Test.{by-test}
-use Rattle.yaml_text.specs.All.{All, all-both, all-weak, holds, not-read}
+use Rattle.yaml_text.specs.DecodeLaws.{decode-is}
+use Rattle.yaml_text.specs.All.{All, all-both, all-got, all-weak}
 use Rattle.yaml_lexeme.specs.Token.{Token}
-use Rattle.yaml_lexeme.specs.Record.{record-words}
 use Rattle.yaml_scan.specs.declared.Limits.{Limits}
 use Rattle.yaml_scan.specs.State.{Event, News, State, ends-with, goes-on}
 use Rattle.yaml_scan.specs.Scan.{step}
@@ -21,8 +17,9 @@ use Rattle.yaml_scan.specs.SlotLaws.{SlotsHold}
 use Rattle.yaml_scan.specs.Candidates.{GivenToken, Placed, Sound, given, late, ready}
 use Rattle.yaml_scan.specs.Runs.{Stepped, step-news}
 use Rattle.yaml_scan.specs.Budget.{begin-sound, on-news}
-use Rattle.yaml_stream.specs.Stream.{Stream, after-news, begun, behind, broken, closing, counted-from, crowded, first-of, fresh, give, least-records, possible, scanning, stepped, waits}
+use Rattle.yaml_stream.specs.Stream.{Stream, after-news, behind, broken, closing, counted-from, fresh, give, scanning, stepped, waits}
 use Rattle.yaml_stream.specs.Kept.{StepKeeps, NotesFrom, step-keeps}
+use Rattle.yaml_stream.specs.Changes.{behind-by, fresh-by, give-by}
 use Rattle.yaml_stream.specs.Waiting.{Held, StreamKeeps, StreamReaches, fresh-keeps, here, reaches-keeps, then-give, then-step}
 use Rattle.yaml_stream.specs.Notes.{AllNoted, Notes, NotesIn, counted-given, counted-notes, counted-placed, holds-after, no-note, note-rest, noted-after, step-notes}
 
@@ -76,11 +73,7 @@ module _ (limits : Limits) (s : State) (n : ℕ) (xs : List Slot) (k : Held limi
           (drop n (given (h .all) es), holds-then es f, noted-then es (i .0 (h .sound)) f (i .1 .1))
 
 behind-noted : (room : ℕ) (s : State) (n : ℕ) (xs : List Slot) (used : ℕ) → Noted s n xs → NotedIn (behind room s n xs used)
-unfolding behind
-behind-noted room s n xs used h =
-    by-test (ltb room used)
-    (λ e. rw (e, behind) tt)
-    (λ e. by-test (crowded s n xs) (λ f. rw (e, f, behind) tt) (λ f. rw (e, f, behind) h))
+behind-noted room s n xs used h = behind-by NotedIn room s n xs used tt (λ _. tt) (λ _. h)
 
 pub stepped-noted : (limits : Limits) (room : ℕ) (x : Stream) → StreamKeeps limits x → NotedIn x → NotedIn (stepped limits room x)
 unfolding stepped
@@ -99,46 +92,25 @@ holds-part : (gs : List GivenToken) (t b : Token) (bs : List Token) (xs : List S
 holds-part [] t b bs xs h = absurd h
 holds-part (g ∷ gs) t b bs xs h = (h .0, λ e. ap (λ (ts : List Token). drop 1 ts) (h .1 e), h .2)
 
-first-noted : (s : State) (n : ℕ) (bs : List Token) (t : Token) (xs : List Slot) (used : ℕ) → Noted s n (slot t bs ∷ xs) → NotedIn (first-of (λ k ys. scanning s k ys used) n bs t xs .stream)
-unfolding first-of
-first-noted s n [] t xs used h =
+noted-given : (s : State) (n : ℕ) (t : Token) (xs : List Slot) → Noted s n (slot t [] ∷ xs) → Noted s (suc n) xs
+noted-given s n t xs h =
     let o : n + 1 ≡ suc n = omega arith in
     let e : drop 1 (drop n (h .all)) ≡ drop (suc n) (h .all) = drop-drop 1 n (h .all) ∙ ap (λ (i : ℕ). drop i (h .all)) o in
     record { all = h .all; sound = h .sound; holds-last = rw (sym e) (holds-rest (drop n (h .all)) (slot t []) xs (h .holds-last)); noted = h .noted .1 }
-first-noted s n (b ∷ bs) t xs used h =
-    record { all = h .all; sound = h .sound; holds-last = holds-part (drop n (h .all)) t b bs xs (h .holds-last); noted = (note-rest (h .noted .0), h .noted .1) }
-
-first-closes : (bs : List Token) (t : Token) (xs : List Slot) → NotedIn (closing (slot t bs ∷ xs)) → NotedIn (first-of (λ _ ys. closing ys) 0 bs t xs .stream)
-unfolding first-of
-first-closes [] t xs h = (drop 1 (h .0), holds-rest (h .0) (slot t []) xs (h .1), h .2 .1)
-first-closes (b ∷ bs) t xs h = (h .0, holds-part (h .0) t b bs xs (h .1), (note-rest (h .2 .0), h .2 .1))
 
 pub give-noted : (x : Stream) → NotedIn x → NotedIn (give x .stream)
-unfolding give
-give-noted (scanning s n [] used) h = h
-give-noted (scanning s n (x ∷ xs) used) h =
-    by-test (possible n (s .keys)) (λ e. rw (e, give) h) (λ e. rw (e, give) (first-noted s n (x .before) (x .token) xs used h))
-give-noted (closing []) h = h
-give-noted (closing (x ∷ xs)) h = first-closes (x .before) (x .token) xs h
-give-noted (broken k m) h = tt
+give-noted x h =
+    give-by NotedIn
+    (λ s n used b bs t xs k. record { all = k .all; sound = k .sound; holds-last = holds-part (drop n (k .all)) t b bs xs (k .holds-last); noted = (note-rest (k .noted .0), k .noted .1) })
+    (λ s n used t xs e k. noted-given s n t xs k)
+    (λ b bs t xs k. (k .0, holds-part (k .0) t b bs xs (k .1), (note-rest (k .2 .0), k .2 .1)))
+    (λ t xs k. (drop 1 (k .0), holds-rest (k .0) (slot t []) xs (k .1), k .2 .1)) x h
 
 -- a fresh state
-
-begun-noted : (words : ℕ) (cs : List ℕ) → NoNul cs → NotedIn (begun words cs)
-unfolding begun
-begun-noted words cs h =
-    by-test (ltb (words / record-words) least-records)
-    (λ e. rw (e, begun) tt)
-    (λ e. rw (e, begun) (record { all = _; sound = begin-sound cs h; holds-last = (refl, λ _. refl, tt); noted = (no-note, tt) }))
-
 pub fresh-noted : (limits : Limits) (bytes : List ℕ) (words : ℕ) → NotedIn (fresh limits bytes words)
-unfolding fresh
 fresh-noted limits bytes words =
-    by-test (ltb (limits .bytes) (length bytes)) (λ e. rw (e, fresh) tt) (λ e. rw (e, fresh) (by-text (decode-is 0 origin bytes)))
-  where
-    by-text : {r : Read (List ℕ)} → All (List ℕ) (Decodes 0 bytes) r → NotedIn (elim r [ got cs ↦ begun words cs | refused k m ↦ broken k m ])
-    by-text (holds {a = cs} d) = begun-noted words cs (d .no-nul)
-    by-text not-read = tt
+    fresh-by NotedIn limits bytes words tt tt (λ k m. tt)
+    (λ cs e. record { all = _; sound = begin-sound cs (all-got (decode-is 0 origin bytes) e .no-nul); holds-last = (refl, λ _. refl, tt); noted = (no-note, tt) })
 
 pub reaches-noted : (limits : Limits) (room : ℕ) {x y : Stream} → StreamKeeps limits x → NotedIn x → StreamReaches limits room x y → NotedIn y
 reaches-noted limits room k h here = h

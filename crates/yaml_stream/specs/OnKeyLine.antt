@@ -145,13 +145,22 @@ pub record KeyLine (limits : Limits) (s u : State) : Type 0 where
   pub second-events : List Event
   pub second-step : step limits value ≡ got (goes-on second-events u)
 
--- no candidate is left behind it: what waits is given, and the list stands before its first entry
+-- no key is possible behind the ':', nor behind the bracket
+
+pub colon-none : {limits : Limits} {s u : State} (l : KeyLine limits s u) → Absents (l .value .keys)
+colon-none {limits} {s} l =
+    let c = all-got (colon-uses limits s (l .at-colon) (l .required) (l .number) (l .mark) (l .first-gap) (l .colon) (l .candidate)) (l .first-step) in
+    rw (c .1) (l .alone (l .outside))
+
+pub bracket-none : {limits : Limits} {s u : State} (l : KeyLine limits s u) → (in-flow u ≡ true) × Absents (u .keys)
+bracket-none {limits} l =
+    let h = all-got (gap-absents (l .value) (colon-none l)) (l .second-gap) in
+    all-got (opens-list limits (l .sequence) (l .value) (l .at-bracket) (l .second-gap) (l .bracket) (l .forbidden) h) (l .second-step)
+
+-- so what waits is given, and the list stands before its first entry
 pub on-key-line : {limits : Limits} {s u : State} {x : Stream} {n used : ℕ} {xs : List Slot} (room : ℕ) → KeyLine limits s u → StreamReaches limits room x (scanning u n xs used)
     → (k : ℕ) × StreamReaches limits room x (scanning u k [] used) × Listed u []
 on-key-line {limits} {s} {u} {n = n} {used = used} {xs = xs} room l r =
-    let c = all-got (colon-uses limits s (l .at-colon) (l .required) (l .number) (l .mark) (l .first-gap) (l .colon) (l .candidate)) (l .first-step) in
-    let none : Absents (l .value .keys) = rw (c .1) (l .alone (l .outside)) in
-    let still = all-got (gap-absents (l .value) none) (l .second-gap) in
-    let o = all-got (opens-list limits (l .sequence) (l .value) (l .at-bracket) (l .second-gap) (l .bracket) (l .forbidden) still) (l .second-step) in
+    let o = bracket-none l in
     let d = drained limits room u n used xs (o .1) r in
     (d .0, d .1, opened-listed u (o .0) (o .1))

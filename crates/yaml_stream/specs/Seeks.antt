@@ -14,14 +14,13 @@ use Rattle.yaml_scan.specs.State.{State}
 use Rattle.yaml_scan.specs.Slots.{Slot}
 use Rattle.yaml_scan.specs.Budget.{on-news}
 use Rattle.yaml_scan.specs.Runs.{step-news}
-use Rattle.yaml_stream.specs.Stream.{Stream, after-news, behind, brings, broken, budget, call, closing, crowded, give, ready, scanning, sought, stepped, waits}
+use Rattle.yaml_stream.specs.Stream.{Stream, after-news, behind, brings, broken, budget, call, closing, give, ready, scanning, sought, stepped, waits}
+use Rattle.yaml_stream.specs.Changes.{behind-by}
 
 behind-budget : (room : ℕ) (s : State) (n : ℕ) (xs : List Slot) (used : ℕ) → budget (behind room s n xs used) ≤ suc (left (s .place))
-unfolding behind budget
+unfolding budget
 behind-budget room s n xs used =
-    by-test (ltb room used)
-    (λ e. rw (e, behind) (omega arith))
-    (λ e. by-test (crowded s n xs) (λ f. rw (e, f, behind) (omega arith)) (λ f. rw (e, f, behind) (omega arith)))
+    behind-by (λ x. budget x ≤ suc (left (s .place))) room s n xs used (omega arith) (λ _. omega arith) (λ _. omega arith)
 
 -- a step uses up budget
 pub stepped-less : (limits : Limits) (room : ℕ) (x : Stream) → ready x ≡ false → budget (stepped limits room x) < budget x

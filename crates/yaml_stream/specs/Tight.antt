@@ -1,22 +1,20 @@
 -- Behind a scanning step at most as many more tokens wait as the indent stack may have entries, and one: 4,352 under 01's limits.
-use Prim.Native.Nat.{_*_, _+_, _-_, _/_, _≤_, suc, zero, ℕ}
+use Prim.Native.Nat.{_*_, _+_, _-_, _≤_, suc, zero, ℕ}
 use mathlib.Core.Bool.{Bool, false, true}
 use mathlib.Core.List.{List, [], _++_, _∷_}
 use mathlib.Core.Logic.{_⊎_, inl, inr}
 use mathlib.Core.Path.{_∙_, _≡_, ap, refl, sym}
 use native.Mathlib.Nat.{le-refl}
 use native.Mathlib.Omega.{arith}
-use lib.Dec.{eqb, ltb}
+use lib.Dec.{eqb}
 use lib.ListN.{drop, length}
 use borrow.Author.Tests.{eqb-true}
 use Rattle.yaml_text.specs.declared.Mark.{Mark}
-use Rattle.yaml_text.specs.Mark.{Place, edge-of, origin}
-use Rattle.yaml_text.specs.Refusal.{Read, got, refused}
-use Rattle.yaml_text.specs.Decode.{decode}
+use Rattle.yaml_text.specs.Mark.{Place, edge-of}
+use Rattle.yaml_text.specs.Refusal.{got}
 use Rattle.yaml_text.specs.Test.{by-test, true-false}
 use Rattle.yaml_text.specs.All.{All, all-both, all-got}
 use Rattle.yaml_lexeme.specs.Token.{FlowMappingEnd, FlowMappingStart, StreamEnd, Token, empty-token}
-use Rattle.yaml_lexeme.specs.Record.{record-words}
 use Rattle.yaml_lexeme.specs.Role.{Open}
 use Rattle.yaml_scan.specs.declared.Candidate.{Candidate}
 use Rattle.yaml_scan.specs.declared.Candidate.the-variants.{Absent, Possible}
@@ -39,9 +37,10 @@ use Rattle.yaml_scan.specs.Steps.{Gapped, Takes, one-most, step-by, unrolled-bl
 use Rattle.theorems.specs.Opened.{Built, Stays, outside}
 use Rattle.theorems.specs.NestingMoves.{Stands, goes-to, zero-level}
 use Rattle.theorems.specs.NestingSteps.{begin-stands, step-stands, unrolled-in, unrolled-out}
-use Rattle.yaml_stream.specs.Stream.{Stream, after-news, begun, behind, broken, closing, crowded, first-of, fresh, give, least-records, most-waiting, possible, ready, scanning, stepped, waits}
+use Rattle.yaml_stream.specs.Stream.{Stream, after-news, behind, broken, closing, fresh, give, least-records, most-waiting, possible, ready, scanning, stepped, waits}
 use Rattle.yaml_stream.specs.Sizes.{total-append}
 use Rattle.yaml_stream.specs.Waits.{flat-length, waits-total}
+use Rattle.yaml_stream.specs.Changes.{behind-by, fresh-by, give-by}
 use Rattle.yaml_stream.specs.Depth.{depth}
 use Rattle.yaml_stream.specs.Totals.{blocks-depth, goes-in-length, not-both, total-ends, total-if, total-then}
 use Rattle.yaml_stream.specs.Waiting.{Held, StreamKeeps, StreamReaches, few-before, fresh-keeps, here, not-false, reaches-keeps, then-give, then-step}
@@ -221,11 +220,7 @@ Tightly limits (closing xs) = Unit {0}
 Tightly limits (broken k m) = Unit {0}
 
 behind-tight : (limits : Limits) (room : ℕ) (s : State) (n : ℕ) (xs : List Slot) (used : ℕ) → Tight limits s xs → Tightly limits (behind room s n xs used)
-unfolding behind
-behind-tight limits room s n xs used h =
-    by-test (ltb room used)
-    (λ e. rw (e, behind) tt)
-    (λ e. by-test (crowded s n xs) (λ f. rw (e, f, behind) tt) (λ f. rw (e, f, behind) h))
+behind-tight limits room s n xs used h = behind-by (Tightly limits) room s n xs used tt (λ _. tt) (λ _. h)
 
 scanned-tight : (limits : Limits) (room : ℕ) (s : State) (n : ℕ) (xs : List Slot) (used : ℕ) → 1 ≤ limits .entries → depth s ≤ limits .entries → Tight limits s xs
     → Tightly limits (after-news room n xs used (step limits s))
@@ -242,41 +237,18 @@ stepped-tight limits room (scanning s n xs used) o k h = scanned-tight limits ro
 stepped-tight limits room (closing xs) o k h = tt
 stepped-tight limits room (broken j m) o k h = tt
 
-first-tight : (limits : Limits) (s : State) (n : ℕ) (bs : List Token) (t : Token) (xs : List Slot) (used : ℕ) → Tight limits s (slot t bs ∷ xs)
-    → Tightly limits (first-of (λ k ys. scanning s k ys used) n bs t xs .stream)
-unfolding first-of
-first-tight limits s n [] t xs used h = record { all = h .all; stands = h .stands; spare = h .spare; thin = h .thin .1 }
-first-tight limits s n (b ∷ bs) t xs used h = record { all = h .all; stands = h .stands; spare = h .spare; thin = (omega (arith, h .thin .0), h .thin .1) }
-
-first-closes : (limits : Limits) (bs : List Token) (t : Token) (xs : List Slot) → Tightly limits (first-of (λ _ ys. closing ys) 0 bs t xs .stream)
-unfolding first-of
-first-closes limits [] t xs = tt
-first-closes limits (b ∷ bs) t xs = tt
-
 give-tight : (limits : Limits) (x : Stream) → Tightly limits x → Tightly limits (give x .stream)
-unfolding give
-give-tight limits (scanning s n [] used) h = h
-give-tight limits (scanning s n (x ∷ xs) used) h =
-    by-test (possible n (s .keys)) (λ e. rw (e, give) h) (λ e. rw (e, give) (first-tight limits s n (x .before) (x .token) xs used h))
-give-tight limits (closing []) h = tt
-give-tight limits (closing (x ∷ xs)) h = first-closes limits (x .before) (x .token) xs
-give-tight limits (broken k m) h = tt
-
-begun-tight : (limits : Limits) (words : ℕ) (cs : List ℕ) → Tightly limits (begun words cs)
-unfolding begun top-key
-begun-tight limits words cs =
-    by-test (ltb (words / record-words) least-records)
-    (λ e. rw (e, begun) tt)
-    (λ e. rw (e, begun) (record { all = _; stands = begin-stands cs; spare = inr (record { level-0 = refl; near = tt }); thin = (omega arith, tt) }))
+give-tight limits x h =
+    give-by (Tightly limits)
+    (λ s n used b bs t xs k. record { all = k .all; stands = k .stands; spare = k .spare; thin = (omega (arith, k .thin .0), k .thin .1) })
+    (λ s n used t xs e k. record { all = k .all; stands = k .stands; spare = k .spare; thin = k .thin .1 })
+    (λ b bs t xs k. tt) (λ t xs k. tt) x h
 
 fresh-tight : (limits : Limits) (bytes : List ℕ) (words : ℕ) → Tightly limits (fresh limits bytes words)
-unfolding fresh
+unfolding top-key
 fresh-tight limits bytes words =
-    by-test (ltb (limits .bytes) (length bytes)) (λ e. rw (e, fresh) tt) (λ e. rw (e, fresh) (by-text (decode 0 origin bytes)))
-  where
-    by-text : (r : Read (List ℕ)) → Tightly limits (elim r [ got cs ↦ begun words cs | refused k m ↦ broken k m ])
-    by-text (got cs) = begun-tight limits words cs
-    by-text (refused k m) = tt
+    fresh-by (Tightly limits) limits bytes words tt tt (λ k m. tt)
+    (λ cs _. record { all = _; stands = begin-stands cs; spare = inr (record { level-0 = refl; near = tt }); thin = (omega arith, tt) })
 
 reaches-tight : (limits : Limits) (room : ℕ) {x y : Stream} → 1 ≤ limits .entries → StreamKeeps limits x → Tightly limits x → StreamReaches limits room x y → Tightly limits y
 reaches-tight limits room o k h here = h

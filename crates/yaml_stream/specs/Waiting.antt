@@ -1,5 +1,5 @@
 -- In every stream that calls come to, at most 4,096 tokens wait before a scanning step; and where 51 is answered. (Behind a step: Tight.)
-use Prim.Native.Nat.{_+_, _/_, _≤_, suc, zero, ℕ}
+use Prim.Native.Nat.{_+_, _≤_, suc, zero, ℕ}
 use mathlib.Core.Bool.{Bool, false, not, true}
 use mathlib.Core.List.{List, [], _++_, _∷_}
 use mathlib.Core.Logic.{_⊎_, inl, inr}
@@ -8,13 +8,10 @@ use native.Mathlib.Omega.{arith}
 use lib.Dec.{eqb, ltb}
 use lib.ListN.{length}
 use borrow.Author.Tests.{eqb-true, ltb-false}
-use Rattle.yaml_text.specs.Refusal.{Read, got, refused}
-use Rattle.yaml_text.specs.Mark.{origin}
-use Rattle.yaml_text.specs.Decode.{decode}
+use Rattle.yaml_text.specs.Refusal.{got}
 use Rattle.yaml_text.specs.Test.{both-true, by-test, true-false}
 use Rattle.yaml_text.specs.All.{all-both, all-got}
 use Rattle.yaml_lexeme.specs.Token.{Token}
-use Rattle.yaml_lexeme.specs.Record.{record-words}
 use Rattle.yaml_scan.specs.declared.Candidate.{Candidate}
 use Rattle.yaml_scan.specs.declared.Candidate.the-variants.{Absent, Possible}
 use Rattle.yaml_scan.specs.declared.Limits.{Limits}
@@ -23,9 +20,10 @@ use Rattle.yaml_scan.specs.Scan.{step}
 use Rattle.yaml_scan.specs.Slots.{Slot, flat, slot, slots}
 use Rattle.yaml_scan.specs.Candidates.{Fall}
 use Rattle.yaml_scan.specs.Budget.{on-news}
-use Rattle.yaml_stream.specs.Stream.{Stream, after-news, begun, behind, broken, budget, call, closing, crowded, first-of, fresh, give, least-records, most-waiting, possible, ready, scanning, sought, stepped, waits}
+use Rattle.yaml_stream.specs.Stream.{Stream, after-news, behind, broken, budget, call, closing, crowded, fresh, give, most-waiting, possible, ready, scanning, sought, stepped, waits}
 use Rattle.yaml_stream.specs.Kept.{From, step-keeps}
 use Rattle.yaml_stream.specs.Waits.{flat-length, from-next, waits-append, waits-length}
+use Rattle.yaml_stream.specs.Changes.{behind-by, fresh-by, give-by, stepped-by}
 use Rattle.yaml_stream.specs.Depth.{depth, step-shallow}
 use Rattle.yaml_stream.specs.Alone.{Absents, IsFirstKey, absents-not, holds-none, holds-possible, step-last}
 use Rattle.yaml_stream.specs.Here.{Behind, Levelled, levelled-alone, step-behind, step-levelled}
@@ -107,11 +105,7 @@ not-crowded s n xs e p =
     (λ k. ltb-false most-waiting (length (flat xs)) k)
 
 behind-keeps : (limits : Limits) (room : ℕ) (s : State) (n : ℕ) (xs : List Slot) (used : ℕ) → (crowded s n xs ≡ false → Held limits s n xs) → StreamKeeps limits (behind room s n xs used)
-unfolding behind
-behind-keeps limits room s n xs used h =
-    by-test (ltb room used)
-    (λ e. rw (e, behind) tt)
-    (λ e. by-test (crowded s n xs) (λ f. rw (e, f, behind) tt) (λ f. rw (e, f, behind) (h f)))
+behind-keeps limits room s n xs used h = behind-by (StreamKeeps limits) room s n xs used tt (λ _. tt) h
 
 few-behind : (s : State) (n k : ℕ) (xs others : List Slot) (last : Token) → xs ≡ others ++ (slot last [] ∷ []) → k ≡ n + length others → crowded s n xs ≡ false
     → (possible n (s .keys) ≡ true) ⊎ From k (s .keys) → Few s n xs
@@ -143,10 +137,7 @@ scanned-keeps limits room s n xs used h r =
     (λ _ _. tt) (λ _ _. tt)
 
 pub stepped-keeps : (limits : Limits) (room : ℕ) (x : Stream) → StreamKeeps limits x → ready x ≡ false → StreamKeeps limits (stepped limits room x)
-unfolding stepped
-stepped-keeps limits room (scanning s n xs used) h r = scanned-keeps limits room s n xs used h r
-stepped-keeps limits room (closing xs) h r = tt
-stepped-keeps limits room (broken k m) h r = tt
+stepped-keeps limits room x h r = stepped-by (StreamKeeps limits) limits room (λ s n xs used k e. scanned-keeps limits room s n xs used k e) x h r
 
 -- a token is given
 
@@ -177,45 +168,26 @@ few-part s n t b bs xs (inr a) = by-others (a .others) (a .is) (a .later)
         let g : xs ≡ ys ++ (slot (a .last) [] ∷ []) = cc in
         inr (record { others = slot t bs ∷ ys; last = a .last; is = ap (λ (zs : List Slot). slot t bs ∷ zs) g; later = f })
 
-first-keeps : (limits : Limits) (s : State) (n : ℕ) (bs : List Token) (t : Token) (xs : List Slot) (used : ℕ) → Held limits s n (slot t bs ∷ xs) → possible n (s .keys) ≡ false
-    → StreamKeeps limits (first-of (λ k ys. scanning s k ys used) n bs t xs .stream)
-unfolding first-of
-first-keeps limits s n [] t xs used h e =
-    record { from = from-next n (s .keys) (h .from) e; counted = omega (arith, h .counted); falls = h .falls; shallow = h .shallow; levelled = h .levelled; few = few-given s n t xs (h .few) }
-first-keeps limits s n (b ∷ bs) t xs used h e =
-    record { from = h .from; counted = h .counted; falls = h .falls; shallow = h .shallow; levelled = h .levelled; few = few-part s n t b bs xs (h .few) }
-
-first-closes : (limits : Limits) (bs : List Token) (t : Token) (xs : List Slot) → StreamKeeps limits (first-of (λ _ ys. closing ys) 0 bs t xs .stream)
-unfolding first-of
-first-closes limits [] t xs = tt
-first-closes limits (b ∷ bs) t xs = tt
-
 pub give-keeps : (limits : Limits) (x : Stream) → StreamKeeps limits x → StreamKeeps limits (give x .stream)
-unfolding give
-give-keeps limits (scanning s n [] used) h = h
-give-keeps limits (scanning s n (x ∷ xs) used) h =
-    by-test (possible n (s .keys)) (λ e. rw (e, give) h) (λ e. rw (e, give) (first-keeps limits s n (x .before) (x .token) xs used h e))
-give-keeps limits (closing []) h = tt
-give-keeps limits (closing (x ∷ xs)) h = first-closes limits (x .before) (x .token) xs
-give-keeps limits (broken k m) h = tt
+give-keeps limits x h =
+    give-by (StreamKeeps limits)
+    (λ s n used b bs t xs k. record { from = k .from; counted = k .counted; falls = k .falls; shallow = k .shallow; levelled = k .levelled; few = few-part s n t b bs xs (k .few) })
+    (λ s n used t xs e k. record {
+      from = from-next n (s .keys) (k .from) e;
+      counted = omega (arith, k .counted);
+      falls = k .falls;
+      shallow = k .shallow;
+      levelled = k .levelled;
+      few = few-given s n t xs (k .few);
+    })
+    (λ b bs t xs k. tt) (λ t xs k. tt) x h
 
 -- a fresh state
-
-begun-keeps : (limits : Limits) (words : ℕ) (cs : List ℕ) → StreamKeeps limits (begun words cs)
-unfolding begun flat
-begun-keeps limits words cs =
-    by-test (ltb (words / record-words) least-records)
-    (λ e. rw (e, begun) tt)
-    (λ e. rw (e, begun) (record { from = tt; counted = refl; falls = tt; shallow = omega arith; levelled = refl; few = inl (omega arith) }))
-
 pub fresh-keeps : (limits : Limits) (bytes : List ℕ) (words : ℕ) → StreamKeeps limits (fresh limits bytes words)
-unfolding fresh
+unfolding flat
 fresh-keeps limits bytes words =
-    by-test (ltb (limits .bytes) (length bytes)) (λ e. rw (e, fresh) tt) (λ e. rw (e, fresh) (by-text (decode 0 origin bytes)))
-  where
-    by-text : (r : Read (List ℕ)) → StreamKeeps limits (elim r [ got cs ↦ begun words cs | refused k m ↦ broken k m ])
-    by-text (got cs) = begun-keeps limits words cs
-    by-text (refused k m) = tt
+    fresh-by (StreamKeeps limits) limits bytes words tt tt (λ k m. tt)
+    (λ cs _. record { from = tt; counted = refl; falls = tt; shallow = omega arith; levelled = refl; few = inl (omega arith) })
 
 -- the streams that calls come to, within them too: a step where the first waiting token is none yet, or a possible key; else a token is given
 pub data StreamReaches (limits : Limits) (room : ℕ) (x : Stream) : Stream → Type 0 where
@@ -223,10 +195,15 @@ pub data StreamReaches (limits : Limits) (room : ℕ) (x : Stream) : Stream → 
   then-step : {y : Stream} → StreamReaches limits room x y → ready y ≡ false → StreamReaches limits room x (stepped limits room y)
   then-give : {y : Stream} → StreamReaches limits room x y → StreamReaches limits room x (give y .stream)
 
+-- what a step and a gift keep holds of all of them
+pub reaches-by : (P : Stream → Type 0) (limits : Limits) (room : ℕ) {x y : Stream} → ((z : Stream) → P z → ready z ≡ false → P (stepped limits room z))
+    → ((z : Stream) → P z → P (give z .stream)) → P x → StreamReaches limits room x y → P y
+reaches-by P limits room f g h here = h
+reaches-by P limits room f g h (then-step {y = y} r e) = f y (reaches-by P limits room f g h r) e
+reaches-by P limits room f g h (then-give {y = y} r) = g y (reaches-by P limits room f g h r)
+
 pub reaches-keeps : (limits : Limits) (room : ℕ) {x y : Stream} → StreamKeeps limits x → StreamReaches limits room x y → StreamKeeps limits y
-reaches-keeps limits room h here = h
-reaches-keeps limits room h (then-step {y = y} r e) = stepped-keeps limits room y (reaches-keeps limits room h r) e
-reaches-keeps limits room h (then-give {y = y} r) = give-keeps limits y (reaches-keeps limits room h r)
+reaches-keeps limits room h r = reaches-by (StreamKeeps limits) limits room (λ z k e. stepped-keeps limits room z k e) (λ z k. give-keeps limits z k) h r
 
 -- a call is such steps and then a gift
 pub sought-reaches : (limits : Limits) (room k : ℕ) {x : Stream} (y : Stream) → StreamReaches limits room x y → StreamReaches limits room x (sought limits room k y)

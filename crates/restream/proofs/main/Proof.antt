@@ -12,16 +12,16 @@ array-fits : (n v k : ℕ) → n ≤ k → length {0} {A = ℕ} (replicate {0} {
 array-fits n v k h = omega (arith, length-replicate n v)
 
 slice-aggregate-restream-input : tie.Need-slice-aggregate-restream-input
-slice-aggregate-restream-input c = array-length 524288 0
+slice-aggregate-restream-input c = array-length 655360 0
 
 slice-aggregate-restream-input-2 : tie.Need-slice-aggregate-restream-input-2
 slice-aggregate-restream-input-2 c = array-length 52800 7
 
 slice-aggregate-restream-input-3 : tie.Need-slice-aggregate-restream-input-3
-slice-aggregate-restream-input-3 c = array-length 12672 7
+slice-aggregate-restream-input-3 c = array-length 16128 7
 
 restream-input-requires : tie.Need-restream-input-requires
-restream-input-requires c κs = array-fits 12672 7 12672 (lit≤ tt)
+restream-input-requires c κs = array-fits 16128 7 16128 (lit≤ tt)
 
 returns : tie.Need-returns
 returns c = search needs

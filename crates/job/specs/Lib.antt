@@ -1,0 +1,9 @@
+pub mod Own
+pub mod OwnLaws
+pub mod JobHolds
+pub mod Sees
+pub mod CountLaws
+pub mod Asks
+pub mod AsksLaws
+pub mod JobLaws
+pub mod JobRun
