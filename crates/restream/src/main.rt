@@ -1,19 +1,20 @@
 // Reads lines `HEX words=W bytes=B`. Writes each again, with what taking the tokens of the text one at a time gives in rooms of W words and B bytes; or, where
 // the line goes on behind that, with the seeds and the closing record of the job that the text is.
 mod handed;
+mod head;
 mod taken;
 
 ghost use Prim.Native.Nat.{_≤_};
 ghost use lib.ListN.{length};
 use handed::say_job;
+use head::least;
+use head::number_end;
+use head::read_number;
 use libc::STDIN_FILENO;
 use libc::STDOUT_FILENO;
 use records::RECORD_WORDS;
 use stream::LEAST_RECORDS;
 use taken::say_taken;
-use vectors::head::least;
-use vectors::head::number_end;
-use vectors::head::read_number;
 use vectors::line_end;
 use vectors::read_hex;
 

@@ -2,6 +2,7 @@
 ghost use Prim.Native.Nat.{_+_, _<_, _^_, _≤_};
 ghost use lib.ListN.{length};
 use crate::MOST_BYTES;
+use crate::head::least;
 use driver::held::HELD_WORDS;
 use libc::STDOUT_FILENO;
 use printing::say_numbers;
@@ -10,7 +11,6 @@ use records::token::kind_number;
 use stream::Next;
 use stream::next_token;
 use vectors::behind;
-use vectors::head::least;
 use vectors::put_hex;
 use yaml_lexeme::Kind;
 

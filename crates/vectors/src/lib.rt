@@ -1,5 +1,4 @@
 // Vectors: lines that begin with a text in hexadecimal.
-pub mod head;
 mod write;
 
 ghost use mathlib.Core.Path.{_≡_};

@@ -1,16 +1,16 @@
--- Each turn goes one on in the line.
+-- The place stays within the line, or where it began.
 use Prim.Native.Nat.{_+_, _-_, _≤_}
 use mathlib.Core.Path.{_≡_}
 use lib.ListN.{length}
 use borrow.Author.Needs.{needs}
-use Rattle.vectors.proofs.head.read_number.Statement.{statement}
-use Rattle.vectors.proofs.head.read_number.Tie as tie
+use Rattle.restream.proofs.head.number_end.Statement.{statement}
+use Rattle.restream.proofs.head.number_end.Tie as tie
 
 abbrev Inv-loop : tie.InvT-loop
-Inv-loop s at n₀ i₀ n i = at ≤ i
+Inv-loop s at i₀ i = i ≤ at + length s
 
 abbrev μ-loop : tie.MeasureT-loop
-μ-loop s at n₀ i₀ n i = length s - i
+μ-loop s at i₀ i = length s - i
 
 loop-holds : tie.Need-loop-holds Inv-loop μ-loop
 loop-holds c = search needs
@@ -24,12 +24,6 @@ is-digit-requires c κs = search needs
 returns : tie.Need-returns Inv-loop μ-loop
 returns c = search needs
 
-shared-slice-read-with-digit : tie.Need-shared-slice-read-with-digit Inv-loop μ-loop
-shared-slice-read-with-digit c = search needs
-
-with-digit-requires : tie.Need-with-digit-requires Inv-loop μ-loop
-with-digit-requires c κs = search needs
-
 add-i : tie.Need-add-i Inv-loop μ-loop
 add-i c = search needs
 
@@ -42,8 +36,8 @@ loop-again c = search needs
 returns-2 : tie.Need-returns-2 Inv-loop μ-loop
 returns-2 c = search needs
 
-pub read-number-spec : {M : Type 1} → statement M
-read-number-spec =
+pub number-end-spec : {M : Type 1} → statement M
+number-end-spec =
     tie.close
     (tie.spec
     Inv-loop
@@ -52,8 +46,6 @@ read-number-spec =
     shared-slice-read-is-digit
     is-digit-requires
     returns
-    shared-slice-read-with-digit
-    with-digit-requires
     add-i
     loop-less
     loop-again

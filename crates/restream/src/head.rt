@@ -10,7 +10,7 @@ fn is_digit(b: u8) -> bool {
 }
 
 // Where the digits end that begin at `at`.
-pub fn number_end(s: &[u8], at: usize) -> usize
+pub(crate) fn number_end(s: &[u8], at: usize) -> usize
     ensures { λ r. ⌜ r ≤ at + length (now (s .entry)) ⌝ }
 {
     let mut i = at;
@@ -32,7 +32,7 @@ fn with_digit(n: u32, digit: u8) -> u32 {
 }
 
 // The number whose digits begin at `at`.
-pub fn read_number(s: &[u8], at: usize) -> u32 {
+pub(crate) fn read_number(s: &[u8], at: usize) -> u32 {
     let mut n: u32 = 0;
     let mut i = at;
     while i < s.len() {
@@ -45,7 +45,7 @@ pub fn read_number(s: &[u8], at: usize) -> u32 {
     n
 }
 
-pub fn least(a: usize, b: usize) -> usize
+pub(crate) fn least(a: usize, b: usize) -> usize
     ensures { λ r. ⌜ (r ≤ a) × (r ≤ b) ⌝ }
 {
     if a < b { a } else { b }
