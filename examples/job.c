@@ -1,6 +1,8 @@
 // job FILE: prints the seeds of a job sheet as they are handed over, one a line; then, as the last line, `done COUNT` or `not done NUMBER LINE COLUMN COUNT`,
-// and why in words on standard error. The exit status is 0, where the job is not done 1, and 2 where the sheet can't be read or printed.
+// and why in words on standard error. The exit status is 0, where the job is not done 1, 2 where the sheet can't be read or printed, and 4 where it is done and
+// its list is empty.
 #include "print.h"
+#include <string.h>
 
 static int job(const uint8_t *text, size_t len) {
     static uint32_t state[TOKENGLADE_JOB_STATE], words[TOKENGLADE_STREAM_WORDS];
@@ -11,17 +13,21 @@ static int job(const uint8_t *text, size_t len) {
         fprintf(stderr, "no memory\n");
         return 2;
     }
+    // a state that is not zero is that of another sheet, and says again how that ended
+    memset(state, 0, sizeof state);
+    uint32_t handed = 0;
     for (;;) {
         tokenglade_job(state, text, len, words, TOKENGLADE_STREAM_WORDS, bytes, bytes_len, seed, closing);
         if (closing[0])
             break;
+        handed++;
         printf("%u\n", seed[0]);
     }
     free(bytes);
     uint32_t count = closing[1], number = closing[2], line = closing[4], column = closing[5] + 1;
-    if (closing[0] == 1) {
+    if (closing[0] == 1 && count == handed) {
         printf("done %u\n", count);
-        return 0;
+        return count ? 0 : 4;
     }
     fprintf(stderr, "not done (%u) at line %u, column %u: %s; seeds before: %u\n", number, line, column, NAMED(REFUSALS, number), count);
     printf("not done %u %u %u %u\n", number, line, column, count);

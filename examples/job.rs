@@ -1,5 +1,6 @@
 //! job FILE: prints the seeds of a job sheet as they are handed over, one a line; then, as the last line, `done COUNT` or `not done NUMBER LINE COLUMN COUNT`,
-//! and why in words on standard error. The exit status is 0, where the job is not done 1, and 2 where the sheet can't be read or printed.
+//! and why in words on standard error. The exit status is 0, where the job is not done 1, 2 where the sheet can't be read or printed, and 4 where it is done and
+//! its list is empty.
 #![no_main]
 mod print;
 
@@ -18,7 +19,7 @@ fn job(text: &[u8], out: &mut dyn Write) -> io::Result<i32> {
         writeln!(out, "{}", seed.value)?;
     }
     match job.finish() {
-        Ok(count) => writeln!(out, "done {count}").map(|()| 0),
+        Ok(count) => writeln!(out, "done {count}").map(|()| if count == 0 { 4 } else { 0 }),
         Err(not_done) => {
             complain(format_args!("{not_done}"));
             let mark = not_done.mark;

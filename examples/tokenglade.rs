@@ -258,8 +258,9 @@ pub struct NotDone {
     pub count: u32,
 }
 
-/// The seeds of a job sheet, one at a time, in lent room of any length. Where the job is not done, that is the last item, so that nobody who forgets
-/// `finish` takes it for done. It is done where `finish` gives its count, and only there.
+/// The seeds of a job sheet, one at a time, in lent room of any length. Where the job is not done, that is the last item: whoever looks at each item meets it,
+/// and `flatten` or `filter_map(Result::ok)` would throw it away. The job is done where `finish` gives its count, and only there; the compiler warns where that
+/// is not used.
 ///
 /// ```ignore
 /// let mut job = Job::new(text, &mut words, &mut bytes);

@@ -93,7 +93,8 @@ void tokenglade_next(uint32_t state[TOKENGLADE_STATE], const uint8_t *text, size
    handed over before the whole of it was scanned, and from some 2,040 seeds on the answer is 51. A list on a line of its own, or behind "? seeds" and ':',
    counts as a possible key itself, and gets 51 from 2,048 seeds on.
 
-   Begin with a state of zeros. Zero it again to start anew, with the same sheet or another. What words and bytes hold at first does not matter.
+   Begin each sheet with a state of zeros: a state that is left from another sheet says again how that one ended, done too. What words and bytes hold at
+   first does not matter. Whoever wants to be sure counts the seeds and compares with closing[1].
    At each later call state, words and bytes must hold what the last call left there, the text must be the same, and so must the three lengths. All of
    them may have moved to other addresses. words and bytes are lent as to tokenglade_next: TOKENGLADE_STREAM_WORDS (with fewer the answer is 52) and, always
    enough, TOKENGLADE_BYTES(b) (5).

@@ -97,7 +97,7 @@ def inputs(folder):
         more = dict(more)
         r = run(["job", *more.pop("args", []), "--record", record], **more)
         expect(r.returncode == 2 and r.stdout == b"" and r.stderr != b"", name, r)
-        expect(name == "a file that isn't there" or not os.path.exists(record), f"{name}: the old record is still there")
+        expect(not os.path.exists(record), f"{name}: the old record is still there")
     with Broken() as s:
         r = run(["job", "--record", record], stdin=s)
         expect(r.returncode == 2 and r.stdout == b"" and not os.path.exists(record), "an input that is reset", r)
@@ -121,6 +121,12 @@ def usage(folder):
         for option in ["--record", "--seeds"]:
             run(["job", sheet, option, other])
             expect(held(sheet) == SHEET, f"{option} {other}: the sheet is no longer what it was")
+    for option in ["--record", "--seeds"]:
+        for stream in ["stdout", "stderr"]:
+            file = os.path.join(folder, "both")
+            with open(file, "wb") as f:
+                r = run(["job", sheet, option, file], **{stream: f})
+            expect(r.returncode == 2 and os.path.exists(file), f"{option} is where {stream} goes", r)
     r = run(["--help"])
     expect(r.returncode == 0 and b"tokenglade job" in r.stdout, "--help", r)
     print("usage", flush=True)
@@ -181,6 +187,12 @@ def records(folder):
         r = run(["job", sheet, "--allow-empty"])
         expect(r.returncode == (0 if status == 4 else status) and r.stdout.decode() == handed + last + "\n", "--allow-empty", r)
     os.remove(record), os.remove(seeds)
+    with open(record, "w") as f:
+        f.write("done 3\n")
+    r = run(["job", sheet, "--record", record, "--seeds", "/dev/null"])
+    expect(r.returncode == 3 and not os.path.exists(record), "seeds that can't go to their FILE leave an old record", r)
+    r = run(["job", "--record", record, "--seeds", seeds], SHEET, preexec_fn=lambda: os.umask(0o077))
+    expect(r.returncode == 0 and os.stat(record).st_mode & os.stat(seeds).st_mode & 0o777 == 0o600, "the mode of files", r)
     print("records and seeds in files", flush=True)
 
 

@@ -1,7 +1,5 @@
 // Lists the tokens of a sheet of up to 512 bytes: `T D`, then a line for each token; or a refusal's number and mark.
 // The sheet is standard input. Where arguments are given, each names a file that is listed so, and `-` is standard input.
-mod sheet;
-
 ghost use Prim.Native.Nat.{_*_, _+_, _/_, _≤_};
 ghost use lib.ListN.{length};
 ghost use Rattle.yaml_lexeme.specs.Record.{record-words};
@@ -10,9 +8,8 @@ ghost use Rattle.printing.specs.Listing.{listing-of, verdict-lines};
 ghost use Rattle.printing.specs.Rooms.{tokens-left};
 ghost use Rattle.printing.specs.Written.{Written};
 ghost use Rattle.scanner.specs.Promise.{verdict-of};
-ghost use Rattle.listing.specs.Sheet.{Lists, Within};
-use crate::sheet::Sheet;
-use crate::sheet::read_sheet;
+ghost use Rattle.sheets.specs.Sheet.{Within};
+ghost use Rattle.listing.specs.Sheet.{Lists};
 use libc::STDIN_FILENO;
 use libc::STDOUT_FILENO;
 use printing::put_numbers;
@@ -20,6 +17,8 @@ use printing::put_records;
 use records::RECORD_WORDS;
 use scanner::Answer;
 use scanner::scan_with;
+use sheets::Sheet;
+use sheets::read_sheet;
 use yaml_scan::Limits;
 
 // The listing of an answer, with what the words hold; how long it is.

@@ -4,7 +4,8 @@ use native.Mathlib.Omega.{arith}
 use lib.Seq.{length-take-le}
 use denote.Ref.{now}
 use borrow.Author.Needs.{needs}
-use Rattle.listing.proofs.Sheets.{broken-listed, full-listed, whole-fits, whole-listed}
+use Rattle.sheets.proofs.Sheets.{whole-fits}
+use Rattle.listing.proofs.Sheets.{broken-listed, full-listed, whole-listed}
 use Rattle.listing.proofs.list_read.Statement.{statement}
 use Rattle.listing.proofs.list_read.Tie as tie
 
