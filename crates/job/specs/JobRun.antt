@@ -1,15 +1,18 @@
 -- Calls one after the other, from a state of zeros: the seeds handed over and the answer behind them are the definition's. So what yaml_job proves of jobs holds
 -- of what the code gives: done means a text that 01 accepts, whose list is of the shape whole, with its seeds; no job is lost; a closing record comes for ever.
-use Prim.Native.Nat.{_+_, _-_, _<_, suc, ℕ}
+use Prim.Native.Nat.{_+_, _-_, _/_, _<_, _≤_, suc, ℕ}
 use mathlib.Core.List.{List, [], _++_, _∷_, append-assoc, append-nil}
 use mathlib.Core.Path.{_∙_, _≡_, ap, refl, subst, sym}
 use native.Mathlib.Nat.{zero-add}
 use native.Mathlib.Omega.{arith}
 use lib.ListN.{length, length-append, replicate, take}
 use Rattle.yaml_text.specs.declared.Mark.{Mark}
+use Rattle.yaml_lexeme.specs.Record.{record-words}
+use Rattle.yaml_lexeme.specs.Token.{Token, texts}
 use Rattle.yaml_scan.specs.declared.Limits.{Limits}
+use Rattle.theorems.specs.Accepted.{Accepts}
 use Rattle.yaml_stream.specs.Answers.{here}
-use Rattle.yaml_stream.specs.Stream.{fresh}
+use Rattle.yaml_stream.specs.Stream.{fresh, least-records, most-waiting}
 use Rattle.yaml_stream.specs.Tale.{built}
 use Rattle.yaml_job.specs.declared.Closing.{Closing}
 use Rattle.yaml_job.specs.declared.Closing.the-variants.{Done, NotDone}
@@ -17,10 +20,15 @@ use Rattle.yaml_job.specs.declared.JobAnswer.{JobAnswer}
 use Rattle.yaml_job.specs.declared.JobAnswer.the-variants.{Closed, Lost, Seed}
 use Rattle.yaml_job.specs.declared.ShapePlace.the-variants.{AtStart}
 use Rattle.yaml_job.specs.Job.{Job, Talk, closed, follow, job, job-call, none-met, talk}
-use Rattle.yaml_job.specs.Calls.{CountsAll, closed-again, closing-stays, job-counts}
-use Rattle.yaml_job.specs.Done.{JobDone, done-means, heard-of, job-closes}
-use Rattle.yaml_job.specs.NotDone.{not-done-means}
+use Rattle.yaml_job.specs.Calls.{Counts, CountsAll, closed-again, closing-stays, job-counts, talk-of}
+use Rattle.yaml_job.specs.Done.{JobDone, done-enough, done-means, heard-of, job-closes, seed-values, talk-last, talk-values}
+use Rattle.yaml_job.specs.Exactly.{Exactly, done-exactly}
+use Rattle.yaml_job.specs.Handed.{Handed, job-handed}
+use Rattle.yaml_job.specs.NotDone.{not-done-means, stopped-some}
+use Rattle.yaml_job.specs.OneList.{OneList, one-list-done}
+use Rattle.yaml_job.specs.Reads.{ends-done}
 use Rattle.yaml_job.specs.Refused.{Stops}
+use Rattle.yaml_job.specs.Shape.{Shape}
 use Rattle.driver.specs.Held.{held-words}
 use Rattle.stream.specs.Holds.{fresh-state}
 use Rattle.stream.specs.Run.{zeros-fresh}
@@ -118,6 +126,21 @@ run-counts {limits} {text} {l} {b} {ss = ss} g p h =
     let k = suc (length ss) in
     subst (λ (r : Talk). CountsAll 0 r) (run-follows g p h k (omega arith)) (job-counts limits text (length l) (length b) k)
 
+-- in a run that still goes on, too
+pub run-counting : {limits : Limits} {text l b st₁ l₁ b₁ : List ℕ} {ss : List (ℕ × ℕ)} → JobGave limits text l b ss st₁ l₁ b₁ → Counts 0 ss
+unfolding follow
+run-counting {limits} {text} {l} {b} {ss = ss} g =
+    let c = job-counts limits text (length l) (length b) (length ss + 0) in
+    subst (λ (rs : List (ℕ × ℕ)). Counts 0 rs) (ap (λ (r : Talk). r .handed) (g .says 0) ∙ append-nil ss) (c .each)
+
+-- the seeds are those of tokens given, in order, done or not
+pub run-handed : {limits : Limits} {text l b st₁ l₁ b₁ st₂ l₂ b₂ : List ℕ} {ss : List (ℕ × ℕ)} {a : JobAnswer} (g : JobGave limits text l b ss st₁ l₁ b₁)
+    → JobPromises limits text st₁ l₁ b₁ st₂ l₂ b₂ a → NoSeed a → (k : ℕ) → length ss < k → length (built limits text) < k
+    → Handed (heard-of limits text (length l) (length b) k .tokens) (seed-values ss)
+run-handed {limits} {text} {l} {b} g p h k i j =
+    let hs = heard-of limits text (length l) (length b) k .tokens in
+    subst (λ (r : Talk). Handed hs (seed-values (r .handed))) (run-follows g p h k i) (job-handed limits text (length l) (length b) k j)
+
 -- "done": 01 accepts the text, its list is of the shape whole, and these are its seeds, n of them
 pub run-done : {limits : Limits} {text l b st₁ l₁ b₁ st₂ l₂ b₂ : List ℕ} {ss : List (ℕ × ℕ)} {n : ℕ} (g : JobGave limits text l b ss st₁ l₁ b₁)
     → JobPromises limits text st₁ l₁ b₁ st₂ l₂ b₂ (Closed (Done n)) → JobDone limits text n ss
@@ -126,12 +149,53 @@ run-done {limits} {text} {l} {b} {ss = ss} {n = n} g p =
     let e = run-follows g p tt k (omega arith) in
     subst (λ (r : Talk). JobDone limits text n (r .handed)) e (done-means limits text (length l) (length b) k n (ap (λ (r : Talk). r .last) e))
 
+-- and StreamEnd is among what the stream gives in k calls, with as many scalars in the list as seeds
+pub run-exactly : {limits : Limits} {text l b st₁ l₁ b₁ st₂ l₂ b₂ : List ℕ} {ss : List (ℕ × ℕ)} {n : ℕ} (g : JobGave limits text l b ss st₁ l₁ b₁)
+    → JobPromises limits text st₁ l₁ b₁ st₂ l₂ b₂ (Closed (Done n)) → (k : ℕ) → length ss < k → (j : length (built limits text) < k)
+    → Exactly limits text (length l) (length b) k j (talk ss (Closed (Done n)))
+run-exactly {limits} {text} {l} {b} {n = n} g p k i j =
+    let e = run-follows g p tt k i in
+    let x = done-exactly limits text (length l) (length b) k j n (ap (λ (r : Talk). r .last) e) in
+    subst (λ (r : Talk). Exactly limits text (length l) (length b) k j r) e x
+
+-- an accepted text of the shape, with words for 4,400 records and bytes for its texts: a run that ended is done, with its seeds
+module _ {limits : Limits} {text l b st₁ l₁ b₁ st₂ l₂ b₂ : List ℕ} {ss : List (ℕ × ℕ)} {a : JobAnswer} (g : JobGave limits text l b ss st₁ l₁ b₁)
+    (p : JobPromises limits text st₁ l₁ b₁ st₂ l₂ b₂ a) (none : NoSeed a) (ts : List Token) (vs : List ℕ) (accepted : Accepts limits text ts) (of-shape : Shape ts vs [])
+    (words : least-records ≤ length l / record-words) (bytes : length (texts ts) ≤ length b) where
+  abbrev IsDone : Type 0
+  IsDone = (a ≡ Closed (Done (length vs))) × (seed-values ss ≡ vs)
+
+  abbrev calls : ℕ
+  calls = suc (length ss + length ts)
+
+  said-done : follow limits (length b) calls (job limits text (length l)) ≡ talk-of 0 vs ends-done → IsDone
+  said-done e =
+      let f = sym (run-follows g p none calls (omega arith)) ∙ e in
+      let n = ap (λ (i : ℕ). Closed (Done i)) (zero-add (length vs)) in
+      (ap (λ (r : Talk). r .last) f ∙ talk-last 0 vs ends-done ∙ n, ap (λ (r : Talk). seed-values (r .handed)) f ∙ talk-values 0 vs ends-done)
+
+  -- of 4,096 tokens at most
+  pub run-shape : length ts ≤ most-waiting → IsDone
+  run-shape few = said-done (done-enough limits text (length l) (length b) calls ts vs accepted of-shape (omega arith) words bytes few)
+
+  -- of any length, with its one list on the key's line
+  pub run-one-list : {c : ℕ} → OneList limits c text → c < most-waiting → IsDone
+  run-one-list o few = said-done (one-list-done o few (length l) (length b) calls ts vs accepted of-shape (omega arith) words bytes)
+
 -- "not done": the first token that does not fit, at its start, or the scanner's refusal, behind tokens that fit
 pub run-not-done : {limits : Limits} {text l b st₁ l₁ b₁ st₂ l₂ b₂ : List ℕ} {ss : List (ℕ × ℕ)} {r n : ℕ} {m : Mark} (g : JobGave limits text l b ss st₁ l₁ b₁)
     → JobPromises limits text st₁ l₁ b₁ st₂ l₂ b₂ (Closed (NotDone r m n)) → (k : ℕ) → length ss < k → length (built limits text) < k
     → let h = heard-of limits text (length l) (length b) k in Stops AtStart none-met (h .last) (h .tokens) r m
 run-not-done {limits} {text} {l} {b} {r = r} {n = n} {m = m} g p k i h =
     not-done-means limits text (length l) (length b) k r n m h (ap (λ (t : Talk). t .last) (run-follows g p tt k i))
+
+-- with a number of at least 1
+pub run-number : {limits : Limits} {text l b st₁ l₁ b₁ st₂ l₂ b₂ : List ℕ} {ss : List (ℕ × ℕ)} {r n : ℕ} {m : Mark} (g : JobGave limits text l b ss st₁ l₁ b₁)
+    → JobPromises limits text st₁ l₁ b₁ st₂ l₂ b₂ (Closed (NotDone r m n)) → 1 ≤ r
+run-number {limits} {text} {l} {b} {ss = ss} {r = r} {n = n} {m = m} g p =
+    let k = suc (length ss + length (built limits text)) in
+    let e = run-follows g p tt k (omega arith) in
+    stopped-some limits text (length l) (length b) k r n m (omega arith) (ap (λ (t : Talk). t .last) e)
 
 pub run-not-lost : {limits : Limits} {text l b st₁ l₁ b₁ st₂ l₂ b₂ : List ℕ} {ss : List (ℕ × ℕ)} (g : JobGave limits text l b ss st₁ l₁ b₁)
     → JobPromises limits text st₁ l₁ b₁ st₂ l₂ b₂ Lost → ⊥

@@ -19,6 +19,7 @@ use Rattle.yaml_stream.specs.Tale.{Close, at-end, built, outcome-of, outcome-to
 use Rattle.yaml_stream.specs.Given.{Ends, Own, by-own, by-rule, whole}
 use Rattle.yaml_stream.specs.Answers.{comes-to-end}
 use Rattle.yaml_stream.specs.Enough.{all-given, all-or-51}
+use Rattle.yaml_stream.specs.Last.{built-last}
 use Rattle.yaml_job.specs.declared.Closing.{Closing}
 use Rattle.yaml_job.specs.declared.Closing.the-variants.{Done, NotDone}
 use Rattle.yaml_job.specs.declared.Effect.{Effect}
@@ -36,7 +37,6 @@ use Rattle.yaml_job.specs.Shape.{Entries, FieldOf, Fields, Is, Shape, Va
 use Rattle.yaml_job.specs.Reads.{End, Judgement, after-effect, done-shape, ends-done, judged, judgement, stops, unread}
 use Rattle.yaml_job.specs.Fits.{shape-done}
 use Rattle.yaml_job.specs.Calls.{HasEnded, answer-of, follow-says, judge, talk-of}
-use Rattle.yaml_job.specs.Last.{built-last}
 
 -- StreamEnd ends the reading, at any place
 

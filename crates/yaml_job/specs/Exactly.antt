@@ -1,4 +1,5 @@
--- Done exactly when StreamEnd was given, no refusal was given and the count is the number of scalar tokens in that list.
+-- Done exactly when StreamEnd is among the tokens that the stream gives in k calls, calls enough, the job gives no refusal and the count is the number of scalar
+-- tokens in that list. The reader asks for no token behind the one that it ends with.
 use Prim.Native.Nat.{_+_, _<_, suc, ℕ}
 use mathlib.Core.Bool.{Bool, _&&_, false, true}
 use mathlib.Core.List.{List, [], _++_, _∷_, append-nil}
@@ -162,9 +163,9 @@ shape-scalars (shape {g = g} {s = s} {b = b} {ts = ts} h i k x d l) = skip-start
 
 -- of the tokens ts and what the reader makes of them
 pub record Exact (ts : List Token) (v : Judgement) : Type 0 where
-  -- StreamEnd was given
+  -- StreamEnd is one of them
   pub given : (fs : List Token) × (us : List Token) × (z : Token) × (ts ≡ fs ++ (z ∷ us)) × Is StreamEnd z
-  -- no refusal was given
+  -- the reader meets no refusal
   pub none-refused : (r : ℕ) (k : Mark) → v .end ≡ stops r k → ⊥
   -- the seeds handed over are as many as the scalar tokens in that list
   pub as-many : length (v .values) ≡ list-scalars ts
@@ -195,7 +196,7 @@ module _ (limits : Limits) (bytes : List ℕ) (words room k : ℕ) (enough : len
   abbrev heard-tokens : List Token
   heard-tokens = heard-of limits bytes words room k .tokens
 
-  -- what the job says, as above: StreamEnd was given, no refusal, as many seeds as scalars
+  -- what the job says, as above: StreamEnd is among what the stream gives in k calls, no refusal, as many seeds as scalars
   pub record Exactly (r : Talk) : Type 0 where
     pub end-given : (fs : List Token) × (us : List Token) × (z : Token) × (heard-tokens ≡ fs ++ (z ∷ us)) × Is StreamEnd z
     pub not-refused : (c n : ℕ) (m : Mark) → r .last ≡ Closed (NotDone c m n) → ⊥

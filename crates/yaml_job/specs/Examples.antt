@@ -48,6 +48,11 @@ pub two : read-job (123 ∷ 125 ∷ []) ≡ job-ends [] (refused-at 71 2 2 0 0)
 unfolding all-open stream-open job-open
 two = refl
 
+-- `{sample: a,}`: a comma at the end is read over, and the fields are missing at StreamEnd
+pub two-b : read-job (123 ∷ sample-is (97 ∷ 44 ∷ 125 ∷ [])) ≡ job-ends [] (refused-at 71 12 2 0 0)
+unfolding all-open stream-open job-open
+two-b = refl
+
 -- the empty text: no mapping came
 pub three : read-job [] ≡ job-ends [] (refused-at 71 0 1 0 0)
 unfolding all-open stream-open job-open
@@ -57,6 +62,12 @@ three = refl
 pub four : read-job (39 ∷ 115 ∷ 97 ∷ 109 ∷ 112 ∷ 108 ∷ 101 ∷ 39 ∷ 58 ∷ 32 ∷ 97 ∷ []) ≡ job-ends [] (refused-at 71 11 2 0 0)
 unfolding all-open stream-open job-open
 four = refl
+
+-- `seeds: [1]⏎"seeds": [2]`: the same name in another style is met again, behind a seed handed over
+pub four-b : read-job (seeds-are (49 ∷ 93 ∷ 10 ∷ 34 ∷ 115 ∷ 101 ∷ 101 ∷ 100 ∷ 115 ∷ 34 ∷ 58 ∷ 32 ∷ 91 ∷ 50 ∷ 93 ∷ []))
+    ≡ job-ends ((1, 1) ∷ []) (refused-at 70 11 2 0 1)
+unfolding all-open stream-open job-open
+four-b = refl
 
 -- `? x`: at the name, not at the Key
 pub five : read-job (63 ∷ 32 ∷ 120 ∷ []) ≡ job-ends [] (refused-at 70 2 1 2 0)

@@ -5,7 +5,6 @@ pub mod Seen
 pub mod Reads
 pub mod Fits
 pub mod Calls
-pub mod Last
 pub mod Done
 pub mod Exactly
 pub mod Refused

@@ -1,5 +1,6 @@
 -- A job that is not done: whichever refusal is met first is the one given, the scanner's or the reader's; a text of the shape meets only the stream's own.
-use Prim.Native.Nat.{_+_, _<_, ℕ}
+-- Its number is at least 1.
+use Prim.Native.Nat.{_+_, _<_, _≤_, ℕ}
 use mathlib.Core.List.{List, [], _++_, _∷_, append-assoc, append-nil}
 use mathlib.Core.Path.{_∙_, _≡_, ap, sym}
 use native.Mathlib.Omega.{arith}
@@ -14,16 +15,19 @@ use Rattle.theorems.specs.Accepted.{Accepts}
 use Rattle.yaml_stream.specs.Stream.{Heard, Next, refusal}
 use Rattle.yaml_stream.specs.Tale.{Close, at-end, at-rule, built, outcome-of, outcome-told, told, unclosed}
 use Rattle.yaml_stream.specs.Given.{Ends, Own, by-own, by-rule, whole}
-use Rattle.yaml_stream.specs.Answers.{accepted-ends}
+use Rattle.yaml_stream.specs.Answers.{accepted-ends, comes-to-end}
+use Rattle.yaml_stream.specs.Numbers.{closes-by, own-some, rule-some}
 use Rattle.yaml_job.specs.declared.Closing.the-variants.{NotDone}
 use Rattle.yaml_job.specs.declared.JobAnswer.the-variants.{Closed}
+use Rattle.yaml_job.specs.declared.Met.{Met}
+use Rattle.yaml_job.specs.declared.ShapePlace.{ShapePlace}
 use Rattle.yaml_job.specs.declared.ShapePlace.the-variants.{AtStart}
 use Rattle.yaml_job.specs.Job.{Talk, follow, job, none-met}
 use Rattle.yaml_job.specs.Shape.{Shape}
 use Rattle.yaml_job.specs.Reads.{End, ends-done, stops, unread}
 use Rattle.yaml_job.specs.Calls.{answer-of, judge}
 use Rattle.yaml_job.specs.Done.{heard-of, job-says, talk-last}
-use Rattle.yaml_job.specs.Refused.{Stops, by-scanner, by-token, no-job, stops-so}
+use Rattle.yaml_job.specs.Refused.{Stops, Why, by-scanner, by-token, missing, no-job, no-number, out-of-place, refused-why, stops-so, unknown}
 
 answer-not : (k n r : ℕ) (m : Mark) (e : End) → answer-of k e ≡ Closed (NotDone r m n) → e ≡ stops r m
 answer-not k n r m ends-done f = let z : _≡_ {A = ℕ} 0 1 = cc in absurd (omega arith)
@@ -72,3 +76,26 @@ shape-refused limits bytes words room k r n m ts vs a s b e =
         let p : x ≡ r = cc in
         let q : j ≡ m = cc in
         rw q at (rw p at o)
+
+-- the number
+
+why-some : {p : ShapePlace} {m : Met} {t : Token} {r : ℕ} → Why p m t r → 1 ≤ r
+why-some (missing k e) = omega arith
+why-some (unknown s h) = omega arith
+why-some (no-number s h) = omega arith
+why-some (out-of-place x h) = omega arith
+
+stops-some : {us : List Token} {a : Next} {r : ℕ} {m : Mark} → (a ≡ refusal r m → 1 ≤ r) → Stops AtStart none-met a us r m → 1 ≤ r
+stops-some h (by-token {q = q} {l = l} {r = r} t vs w e f) = why-some (refused-why q l t r e)
+stops-some h (by-scanner w e) = h e
+
+-- 70 to 73, a rule's, or one of the stream's own
+pub stopped-some : (limits : Limits) (bytes : List ℕ) (words room k r n : ℕ) (m : Mark) → length (built limits bytes) < k
+    → follow limits room k (job limits bytes words) .last ≡ Closed (NotDone r m n) → 1 ≤ r
+stopped-some limits bytes words room k r n m b e =
+    stops-some (by-end (comes-to-end limits bytes words room k b)) (not-done-means limits bytes words room k r n m b e)
+  where
+    by-end : {h : Heard} → Ends (Own words room (built limits bytes)) (built limits bytes) (told limits bytes .close) h → h .last ≡ refusal r m → 1 ≤ r
+    by-end (whole f) g = let z : _≡_ {A = ℕ} 0 1 = cc in absurd (omega arith)
+    by-end (by-rule {n = x} {m = j} us f c) g = let y : x ≡ r = cc in rw (← y) (rule-some (closes-by limits bytes x j c))
+    by-end (by-own {n = x} us f o) g = let y : x ≡ r = cc in rw (← y) (own-some o)

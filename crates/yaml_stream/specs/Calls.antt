@@ -1,14 +1,17 @@
 -- How many calls a run takes at most. Each character pays for two tokens, and three more come besides, in a text that is refused too: so of 2c + 4 calls the
 -- last gives no token.
-use Prim.Native.Nat.{_*_, _+_, _≤_, suc, zero, ℕ}
-use mathlib.Core.List.{List, _++_}
+use Prim.Native.Nat.{_*_, _+_, _≤_, pred, suc, zero, ℕ}
+use mathlib.Core.List.{List, [], _++_, _∷_}
 use mathlib.Core.Path.{_≡_, ap}
 use native.Mathlib.Omega.{arith}
 use lib.Dec.{ltb}
 use lib.ListN.{length, length-append}
+use borrow.Author.Tests.{ltb-false}
+use Rattle.yaml_text.specs.declared.Decoded.{Decoded}
+use Rattle.yaml_text.specs.declared.Decoded.the-variants.{Char, End, Ill}
 use Rattle.yaml_text.specs.Mark.{origin}
 use Rattle.yaml_text.specs.Refusal.{Read}
-use Rattle.yaml_text.specs.Utf8.{chars}
+use Rattle.yaml_text.specs.Utf8.{chars, chars-after, first, more}
 use Rattle.yaml_text.specs.Test.{by-test}
 use Rattle.yaml_text.specs.All.{All, holds, not-read}
 use Rattle.yaml_text.specs.DecodeLaws.{Decodes, NoNul, decode-is}
@@ -42,6 +45,26 @@ built-tokens limits bytes =
     by-text : {r : Read (List ℕ)} → All (List ℕ) (Decodes 0 bytes) r → length (tokens-of (told-of limits r .events)) ≤ 2 * length (chars bytes) + 3
     by-text (holds {a = cs} d) = rw (← (d .same)) (text-tokens limits cs (d .no-nul))
     by-text not-read = omega arith
+
+-- a character takes a byte or more
+pub chars-few : (k : ℕ) (l : List ℕ) → length (chars-after k l) ≤ length l
+unfolding chars-after
+chars-few k [] = omega arith
+chars-few zero (a ∷ t) = by-first (first (a ∷ t)) (λ n. chars-few n t)
+  where
+    by-first : (d : Decoded) → ((n : ℕ) → length (chars-after n t) ≤ length t) → length (more d (λ n. chars-after n t)) ≤ suc (length t)
+    by-first (Char c n) h = omega (arith, h (pred n))
+    by-first Ill h = omega arith
+    by-first End h = omega arith
+chars-few (suc k) (a ∷ t) = omega (arith, chars-few k t)
+
+-- so, whatever the text: one that is longer than the limit gives none
+pub built-few : (limits : Limits) (text : List ℕ) → length (built limits text) ≤ 2 * limits .bytes + 3
+unfolding told slots flat
+built-few limits text =
+    by-test (ltb (limits .bytes) (length text))
+    (λ e. rw (e, told) (omega arith))
+    (λ e. omega (arith, ltb-false (limits .bytes) (length text) e, built-tokens limits text, chars-few 0 text))
 
 -- so many tokens are given, whatever the number of calls
 pub given-most : (limits : Limits) (bytes : List ℕ) (words room : ℕ) {ts : List Token} {y : Stream} → Comes limits room (fresh limits bytes words) ts y → length ts ≤ 2 * length (chars bytes) + 3

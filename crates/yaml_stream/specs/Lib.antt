@@ -12,6 +12,7 @@ pub mod Given
 pub mod Answers
 pub mod Numbers
 pub mod Calls
+pub mod Last
 pub mod Enough
 pub mod Nesting
 pub mod Depth

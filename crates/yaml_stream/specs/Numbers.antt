@@ -1,7 +1,7 @@
 -- Every refusal that a call answers has a number of at least 1: a rule's is one of 1 to 3 or of 10 to 49, and the stream's own are 5, 51 and 52.
 use Prim.Native.Nat.{_≤_, ℕ}
 use mathlib.Core.List.{List}
-use mathlib.Core.Logic.{_⊎_, inl, inr}
+use mathlib.Core.Logic.{_⊎_, inl, inr, ⊎-elim}
 use mathlib.Core.Path.{_∙_, _≡_, ap}
 use native.Mathlib.Omega.{arith}
 use Rattle.yaml_text.specs.declared.Mark.{Mark}
@@ -17,8 +17,17 @@ use Rattle.yaml_stream.specs.Answers.{Comes, comes-owes}
 abbrev pub OfRule : ℕ → Type 0
 OfRule n = ((1 ≤ n) × (n ≤ 3)) ⊎ ((10 ≤ n) × (n ≤ 49))
 
-closes-by : (limits : Limits) (bytes : List ℕ) (n : ℕ) (m : Mark) → told limits bytes .close ≡ at-rule n m → OfRule n
+pub closes-by : (limits : Limits) (bytes : List ℕ) (n : ℕ) (m : Mark) → told limits bytes .close ≡ at-rule n m → OfRule n
 closes-by limits bytes n m e = has-rule limits bytes n m (outcome-told limits bytes ∙ ap (λ (c : Close). outcome-of (told limits bytes .events) c) e)
+
+pub rule-some : {n : ℕ} → OfRule n → 1 ≤ n
+rule-some (inl h) = h .0
+rule-some (inr h) = omega (arith, h .0)
+
+pub own-some : {words room n : ℕ} {list : List Token} {m : Mark} → Own words room list n m → 1 ≤ n
+own-some (bytes-full h) = omega arith
+own-some (many-wait h) = omega arith
+own-some (few-words h) = omega arith
 
 module _ (limits : Limits) (bytes : List ℕ) (words room : ℕ) {ts : List Token} {y : Stream} (r : Comes limits room (fresh limits bytes words) ts y) where
   -- the refusal of a rule, or one of the stream's own with its reason
@@ -34,14 +43,4 @@ module _ (limits : Limits) (bytes : List ℕ) (words room : ℕ) {ts : List Toke
       by-answer (inr o) = inr o
 
   pub at-least-one : (k : ℕ) (m : Mark) → call limits room y .answer ≡ refusal k m → 1 ≤ k
-  at-least-one k m e = by-reason (has-reason k m e)
-    where
-      by-own : {n : ℕ} {p : Mark} → Own words room (built limits bytes) n p → 1 ≤ n
-      by-own (bytes-full h) = omega arith
-      by-own (many-wait h) = omega arith
-      by-own (few-words h) = omega arith
-
-      by-reason : OfRule k ⊎ Own words room (built limits bytes) k m → 1 ≤ k
-      by-reason (inl (inl h)) = h .0
-      by-reason (inl (inr h)) = omega (arith, h .0)
-      by-reason (inr o) = by-own o
+  at-least-one k m e = ⊎-elim (λ h. rule-some h) (λ o. own-some o) (has-reason k m e)
