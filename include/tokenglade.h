@@ -89,9 +89,9 @@ void tokenglade_next(uint32_t state[TOKENGLADE_STATE], const uint8_t *text, size
        sample: S-17
        panel: P-3
        seeds: [1, 22, 333]
-   So written, the list never meets 51, however long it is. In braces ({sample: S-17, ..}) it can: the outer bracket counts as a possible key, no seed is
-   handed over before the whole of it was scanned, and from some 2,040 seeds on the answer is 51. A list on a line of its own, or behind "? seeds" and ':',
-   counts as a possible key itself, and gets 51 from 2,048 seeds on.
+   So written, a list of seeds and commas never meets 51, however long it is. In braces ({sample: S-17, ..}) it can: the outer bracket counts as a possible
+   key, no seed is handed over before the whole of it was scanned, and from some 2,040 seeds on the answer is 51. A list on a line of its own, or behind
+   "? seeds", a break and ':', counts as a possible key itself, and gets 51 from 2,048 seeds on. So does a list within the list.
 
    Begin each sheet with a state of zeros: a state that is left from another sheet says again how that one ended, done too. What words and bytes hold at
    first does not matter. Whoever wants to be sure counts the seeds and compares with closing[1].

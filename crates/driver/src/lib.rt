@@ -6,7 +6,7 @@ ghost use mathlib.Core.Bool.{false, true};
 ghost use mathlib.Core.Path.{_≡_};
 ghost use lib.ListN.{length};
 ghost use Rattle.yaml_scan.specs.Choice.{choice};
-ghost use Rattle.yaml_scan.specs.Scan.{step};
+ghost use Rattle.yaml_scan.specs.Scan.{standard, step};
 ghost use Rattle.yaml_stream.specs.Levels.{level-key};
 ghost use Rattle.yaml_stream.specs.Lowest.{names};
 ghost use Rattle.choices.specs.Choice.{AsDefined};
@@ -85,6 +85,17 @@ const MOST_WAITING: u32 = 4_096;
 
 // So many slots with tokens that can be given are enough: the state is read and held once for all of them.
 const SLOTS_AHEAD: u32 = 32;
+
+// 01's limits.
+pub fn standard() -> Limits
+    ensures { λ r. ⌜ r ≡ standard ⌝ }
+{
+    Limits {
+        bytes: 1_048_576,
+        levels: 255,
+        entries: 255,
+    }
+}
 
 // The counts behind so many ends of blocks.
 fn ending(n: Counts, ended: u32) -> Counts

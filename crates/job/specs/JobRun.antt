@@ -20,12 +20,12 @@ use Rattle.yaml_job.specs.declared.JobAnswer.{JobAnswer}
 use Rattle.yaml_job.specs.declared.JobAnswer.the-variants.{Closed, Lost, Seed}
 use Rattle.yaml_job.specs.declared.ShapePlace.the-variants.{AtStart}
 use Rattle.yaml_job.specs.Job.{Job, Talk, closed, follow, job, job-call, none-met, talk}
+use Rattle.yaml_job.specs.BlockSheet.{InBlock, OnNameLine, block-sheet-done}
 use Rattle.yaml_job.specs.Calls.{Counts, CountsAll, closed-again, closing-stays, job-counts, talk-of}
 use Rattle.yaml_job.specs.Done.{JobDone, done-enough, done-means, heard-of, job-closes, seed-values, talk-last, talk-values}
 use Rattle.yaml_job.specs.Exactly.{Exactly, done-exactly}
 use Rattle.yaml_job.specs.Handed.{Handed, job-handed}
 use Rattle.yaml_job.specs.NotDone.{not-done-means, stopped-some}
-use Rattle.yaml_job.specs.OneList.{OneList, one-list-done}
 use Rattle.yaml_job.specs.Reads.{ends-done}
 use Rattle.yaml_job.specs.Refused.{Stops}
 use Rattle.yaml_job.specs.Shape.{Shape}
@@ -178,9 +178,9 @@ module _ {limits : Limits} {text l b st₁ l₁ b₁ st₂ l₂ b₂ : List ℕ}
   pub run-shape : length ts ≤ most-waiting → IsDone
   run-shape few = said-done (done-enough limits text (length l) (length b) calls ts vs accepted of-shape (omega arith) words bytes few)
 
-  -- of any length, with its one list on the key's line
-  pub run-one-list : {c : ℕ} → OneList limits c text → c < most-waiting → IsDone
-  run-one-list o few = said-done (one-list-done o few (length l) (length b) calls ts vs accepted of-shape (omega arith) words bytes)
+  -- of any length, in block form, with its list on its name's line
+  pub run-block-sheet : InBlock ts → OnNameLine ts → IsDone
+  run-block-sheet i o = said-done (block-sheet-done limits text ts vs (length l) (length b) accepted of-shape i o calls (omega arith) words bytes)
 
 -- "not done": the first token that does not fit, at its start, or the scanner's refusal, behind tokens that fit
 pub run-not-done : {limits : Limits} {text l b st₁ l₁ b₁ st₂ l₂ b₂ : List ℕ} {ss : List (ℕ × ℕ)} {r n : ℕ} {m : Mark} (g : JobGave limits text l b ss st₁ l₁ b₁)

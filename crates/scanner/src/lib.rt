@@ -12,6 +12,7 @@ ghost use Rattle.scanner.specs.Promise.{Answers, Settles, answer-of, cap
 ghost use Rattle.scanner.specs.Run.{RunComes};
 use crate::run::run;
 use driver::Outcome;
+use driver::standard;
 use events::Counts;
 use records::RECORD_WORDS;
 use rooms::clear_from;
@@ -99,17 +100,6 @@ fn scan_within(limits: Limits, text: &[u8], words: &mut [u32], bytes: &mut [u8])
         Outcome::Scanned(n) => lent(n, words, bytes),
         // Tokens are not given one at a time: it does not come.
         Outcome::Ready => refused(outside(0), 0, 0, words, bytes),
-    }
-}
-
-// 01's limits.
-fn standard() -> Limits
-    ensures { λ r. ⌜ r ≡ standard ⌝ }
-{
-    Limits {
-        bytes: 1_048_576,
-        levels: 255,
-        entries: 255,
     }
 }
 

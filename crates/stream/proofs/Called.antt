@@ -1,6 +1,6 @@
 -- A call of a stream that is held: what can be given is given; else the phase that is held says what is done.
 use Prim.Native.Nat.{_*_, _/_, _<_, _≤_, ℕ}
-use mathlib.Core.Bool.{false, true}
+use mathlib.Core.Bool.{Bool, false, true}
 use mathlib.Core.List.{List, [], _++_, _∷_, append-nil}
 use mathlib.Core.Path.{_∙_, _≡_, ap, refl, subst, sym}
 use native.Mathlib.Omega.{arith}
@@ -26,9 +26,9 @@ use Rattle.stream.specs.declared.Next.the-variants as next
 use Rattle.stream.specs.Holds.{Breaks, Calls, Closes, Holds, Lent, Promises, Says, Scans, Waits, breaks, closes, fresh-state, scans, text-given}
 use Rattle.stream.specs.ScansOn.{ScansOn, then-held}
 use Rattle.stream.specs.Start.{Starts}
-use Rattle.stream.specs.Words.{Gives, front-held, front-words, has-some, last-held, no-token}
+use Rattle.stream.specs.Words.{MayGive, front-held, front-words, has-some, last-held, no-token}
 use Rattle.stream.proofs.Breaks.{broken-answer}
-use Rattle.stream.proofs.Gives.{given-calls}
+use Rattle.stream.proofs.GivesToken.{given-calls, none-given}
 use Rattle.stream.proofs.Lends.{last-ended, last-refused, none-told}
 use Rattle.stream.proofs.Scanned.{Onward, scans-on}
 use Rattle.stream.proofs.Starts.{starts-calls}
@@ -114,11 +114,15 @@ module _ (limits : Limits) (text h l b h₁ l₁ b₁ : List ℕ) (all : length 
         holds = subst (λ (n : ℕ). Holds limits text h' l' b₁ (gone ++ text-given (call limits n x .answer)) (call limits n x .stream)) (w .same-bytes) (k .holds);
       }
 
-  pub scan-gives : {h' l' r : List ℕ} → length h₁ ≡ held-words → has-some h₁ (length l₁) ≡ true → Gives h₁ l₁ h' l' r → Promises limits text h l b h' l' b₁ r next.Token
-  scan-gives {h'} {l'} {r} all₁ s g gone x k = calls-as (given-calls limits text h₁ l₁ b₁ h' l' r all₁ g s (scan-holds k .holds))
+  module _ {t h' l' t' : List ℕ} {v : Bool} (g : MayGive h₁ l₁ t h' l' t' v) where
+    pub scan-gives : length h₁ ≡ held-words → v ≡ true → Promises limits text h l b h' l' b₁ t' next.Token
+    scan-gives all₁ e gone x k = calls-as (given-calls limits text h₁ l₁ b₁ g all₁ e gone x (scan-holds k .holds))
 
-  pub scan-last : {r : List ℕ} {a : Next} → has-some h₁ (length l₁) ≡ false → a ≡ last-held h₁ → r ≡ no-token → Promises limits text h l b h₁ l₁ b₁ r a
-  scan-last s i j gone x k = let o = scan-holds k in calls-as (last-calls limits text h₁ l₁ b₁ s (o .done s) i j (o .holds))
+    pub scan-last : {r : List ℕ} {a : Next} → v ≡ false → a ≡ last-held h' → r ≡ no-token → Promises limits text h l b h' l' b₁ r a
+    scan-last e i j gone x k =
+        let o = scan-holds k in
+        let z = g .stays e in
+        calls-as (last-calls limits text h' l' b₁ (none-given g e) (rw (z .0) (o .done (sym (g .told) ∙ e))) i j (rw (z .0, z .1) (o .holds)))
 
 -- the parts of a scan
 pub scan-told : (limits : Limits) (text h l b h₁ l₁ held h' l' b' : List ℕ) (o v : Outcome) → (h₁ ≡ front-held h) × (l₁ ≡ front-words h l) → Drives limits true text h₁ l₁ b held l' b' o

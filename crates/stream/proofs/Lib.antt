@@ -2,7 +2,7 @@ pub mod Lends
 pub mod Kept
 pub mod FirstSlot
 pub mod Given
-pub mod Gives
+pub mod GivesToken
 pub mod Breaks
 pub mod Starts
 pub mod Begins

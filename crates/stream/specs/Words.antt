@@ -1,10 +1,10 @@
 -- What the parts of a call do to the words that they are lent.
 use Prim.Native.Nat.{_*_, _+_, _-_, ℕ}
-use mathlib.Core.Bool.{Bool, false}
+use mathlib.Core.Bool.{Bool, false, true}
 use mathlib.Core.List.{List}
 use mathlib.Core.Path.{_≡_}
 use lib.Dec.{eqb, ltb}
-use lib.ListN.{drop, replicate, set, take}
+use lib.ListN.{drop, length, replicate, set, take}
 use lib.Seq.{sets}
 use Rattle.yaml_text.specs.declared.Refusal.{Refusal}
 use Rattle.yaml_text.specs.Pick.{pick}
@@ -84,6 +84,12 @@ close-held h m = set (set h phase-at 2) until-at (m .count - at-most (m .count) 
 -- whether a token can be given, where so many words are lent
 unfoldable pub has-some : List ℕ → ℕ → Bool
 has-some h n = pick (ltb n (least-records * record-words)) false (ltb (word h slot-at) (word h until-at))
+
+-- the first token that waits is given if it can be, else all stays; r says which. t stood in the token's words
+pub record MayGive (h l t h' l' t' : List ℕ) (r : Bool) : Type 0 where
+  pub told : r ≡ has-some h (length l)
+  pub given : r ≡ true → Gives h l h' l' t'
+  pub stays : r ≡ false → (h' ≡ h) × (l' ≡ l) × (t' ≡ t)
 
 -- what is said where none can
 unfoldable pub last-held : List ℕ → Next

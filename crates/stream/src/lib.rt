@@ -12,7 +12,7 @@ ghost use Rattle.yaml_stream.specs.Stream.{least-records};
 ghost use Rattle.stream.specs.Holds.{Promises};
 ghost use Rattle.driver.specs.Held.{Modest, held-words, phase-at, word};
 ghost use Rattle.stream.specs.ScansOn.{ScansOn};
-ghost use Rattle.stream.specs.Words.{close-held, has-some, last-held, no-token};
+ghost use Rattle.stream.specs.Words.{MayGive, close-held, has-some, last-held, no-token};
 use crate::give::give_first;
 use crate::give::to_front;
 use crate::start::held_refusal;
@@ -27,6 +27,7 @@ use driver::held::HELD_WORDS;
 use driver::held::PHASE;
 use driver::held::SLOT;
 use driver::held::UNTIL;
+use driver::standard;
 use events::Counts;
 use records::RECORD_WORDS;
 use rooms::clear_words_from;
@@ -64,6 +65,18 @@ fn has_some(held: &[u32], words: &[u32]) -> bool
         return false;
     }
     held[SLOT] < held[UNTIL]
+}
+
+// The first token that waits is given, if it can be; whether it was.
+fn gives(held: &mut [u32], words: &mut [u32], token: &mut [u32]) -> bool
+    requires { ⌜ (length (now held) ≡ held-words) × (length (now token) ≡ record-words) ⌝ }
+    ensures { λ r. ⌜ MayGive (now (held .entry)) (now (words .entry)) (now (token .entry)) (now (held .exit)) (now (words .exit)) (now (token .exit)) r ⌝ }
+{
+    if has_some(held, words) {
+        give_first(held, words, token);
+        return true;
+    }
+    false
 }
 
 // What is held says: a refusal, or the end.
@@ -118,15 +131,14 @@ fn go_on(
         return refused(held, token, outside(52));
     }
     scan_on(limits, held, text, words, bytes);
-    if has_some(held, words) {
-        give_first(held, words, token);
+    if gives(held, words, token) {
         return Next::Token;
     }
     last_answer(held, token)
 }
 
-// Within limits that are at most 01's.
-fn next_within(
+// A call where nothing can be given at once. It has two callers, and stands apart from them: so giving a token stays short there.
+fn next_scanned(
     limits: Limits,
     held: &mut [u32],
     text: &[u8],
@@ -134,13 +146,9 @@ fn next_within(
     bytes: &mut [u8],
     token: &mut [u32],
 ) -> Next
-    requires { ⌜ Modest limits × (1 ≤ limits .entries) × (length (now held) ≡ held-words) × (length (now token) ≡ record-words) ⌝ }
+    requires { ⌜ Modest limits × (1 ≤ limits .entries) × (has-some (now held) (length (now words)) ≡ false) × (length (now held) ≡ held-words) × (length (now token) ≡ record-words) ⌝ }
     ensures { λ r. ⌜ Promises limits (now (text .entry)) (now (held .entry)) (now (words .entry)) (now (bytes .entry)) (now (held .exit)) (now (words .exit)) (now (bytes .exit)) (now (token .exit)) r ⌝ }
 {
-    if has_some(held, words) {
-        give_first(held, words, token);
-        return Next::Token;
-    }
     if held[PHASE] == 0 {
         return start(limits, held, text, words, token);
     }
@@ -158,12 +166,10 @@ pub fn next_held(
     requires { ⌜ length (now held) ≡ held-words ⌝ }
     ensures { λ r. ⌜ Promises standard (now (text .entry)) (now (held .entry)) (now (words .entry)) (now (bytes .entry)) (now (held .exit)) (now (words .exit)) (now (bytes .exit)) (now (token .exit)) r ⌝ }
 {
-    let limits = Limits {
-        bytes: 1_048_576,
-        levels: 255,
-        entries: 255,
-    };
-    next_within(limits, held, text, words, bytes, token)
+    if gives(held, words, token) {
+        return Next::Token;
+    }
+    next_scanned(standard(), held, text, words, bytes, token)
 }
 
 // The next token of a text. What is held is all zero at first; held, text, words and bytes are those of the call before.
@@ -176,5 +182,8 @@ pub fn next_token(
 ) -> Next
     ensures { λ r. ⌜ Promises standard (now (text .entry)) (now (held .entry)) (now (words .entry)) (now (bytes .entry)) (now (held .exit)) (now (words .exit)) (now (bytes .exit)) (now (token .exit)) r ⌝ }
 {
-    next_held(held, text, words, bytes, token)
+    if gives(held, words, token) {
+        return Next::Token;
+    }
+    next_scanned(standard(), held, text, words, bytes, token)
 }

@@ -20,6 +20,12 @@ OfOutcome P (scanned es) = P es
 OfOutcome P (stopped n m) = Unit {0}
 OfOutcome P spent = Unit {0}
 
+-- with events before them
+pub after-good : (P Q : List Event → Type 0) (es : List Event) (o : Outcome) → ((fs : List Event) → P fs → Q (es ++ fs)) → OfOutcome P o → OfOutcome Q (after-events es o)
+after-good P Q es (scanned fs) f h = f fs h
+after-good P Q es (stopped n m) f h = tt
+after-good P Q es spent f h = tt
+
 -- the events es of a scan of the bytes: StreamStart, and what comes from the first character on
 pub record ScanOf (Good : State → List Event → Type 0) (bytes : List ℕ) (es : List Event) : Type 0 where
   pub text : List ℕ
@@ -45,11 +51,6 @@ module _ (limits : Limits) (Good Ready : State → List Event → Type 0)
           → Leads Good s (preceded (block-ends (unrolled t .ended) (mark-of t)) w)
       by-news t g (goes-on es u) m k = λ fs h. rw append-assoc (gap s t (es ++ fs) g (move (unrolled-state t) u es fs m k h))
       by-news t g (ends-with es) m k = gap s t es g (last (unrolled-state t) es m)
-
-  after-good : (P Q : List Event → Type 0) (es : List Event) (o : Outcome) → ((fs : List Event) → P fs → Q (es ++ fs)) → OfOutcome P o → OfOutcome Q (after-events es o)
-  after-good P Q es (scanned fs) f h = f fs h
-  after-good P Q es (stopped n m) f h = tt
-  after-good P Q es spent f h = tt
 
   run-good : (k : ℕ) (s : State) → OfOutcome (Good s) (run limits k s)
   unfolding run

@@ -11,6 +11,6 @@ pub mod Refused
 pub mod NotDone
 pub mod Handed
 pub mod Examples
-pub mod OneList
+pub mod BlockSheet
 pub mod JobSheet
 pub mod SheetDone

@@ -10,10 +10,9 @@ use Rattle.yaml_lexeme.specs.Token.{Token}
 use Rattle.yaml_scan.specs.declared.Limits.{Limits}
 use Rattle.yaml_scan.specs.State.{Event}
 use Rattle.yaml_scan.specs.Slots.{tokens-of}
-use Rattle.yaml_scan.specs.Scan.{scanned}
 use Rattle.theorems.specs.Accepted.{Accepts}
 use Rattle.yaml_stream.specs.Stream.{Heard, Next, refusal}
-use Rattle.yaml_stream.specs.Tale.{Close, at-end, at-rule, built, outcome-of, outcome-told, told, unclosed}
+use Rattle.yaml_stream.specs.Tale.{at-end, built, closes-as, outcome-told, told}
 use Rattle.yaml_stream.specs.Given.{Ends, Own, by-own, by-rule, whole}
 use Rattle.yaml_stream.specs.Answers.{accepted-ends, comes-to-end}
 use Rattle.yaml_stream.specs.Numbers.{closes-by, own-some, rule-some}
@@ -44,11 +43,6 @@ not-done-means limits bytes words room k r n m b e =
     let f = sym (talk-last 0 (v .values) (v .end)) ∙ ap (λ (t : Talk). t .last) (sym (job-says limits bytes words room k b)) ∙ e in
     stops-so AtStart none-met (h .tokens) (h .last) r m (answer-not (0 + length (v .values)) n r m (v .end) f)
 
-same-events : (c : Close) (fs es : List Event) → outcome-of fs c ≡ scanned es → fs ≡ es
-same-events at-end fs es e = cc
-same-events (at-rule n m) fs es e = let z : _≡_ {A = ℕ} 0 1 = cc in absurd (omega arith)
-same-events unclosed fs es e = let z : _≡_ {A = ℕ} 0 1 = cc in absurd (omega arith)
-
 -- in a list of the shape no token fails to fit
 none-fails : {us : List Token} {a : Next} {vs : List ℕ} {r : ℕ} {m : Mark} (list xs : List Token) → list ≡ us ++ xs → Stops AtStart none-met a us r m
     → Shape list vs [] → a ≡ refusal r m
@@ -62,8 +56,8 @@ pub shape-refused : (limits : Limits) (bytes : List ℕ) (words room k r n : ℕ
     → length ts < k → follow limits room k (job limits bytes words) .last ≡ Closed (NotDone r m n) → Own words room ts r m
 shape-refused limits bytes words room k r n m ts vs a s b e =
     let l = a .list in
-    let c = same-events (told limits bytes .close) (told limits bytes .events) (a .events) (sym (outcome-told limits bytes) ∙ a .accepted) in
-    let g : ts ≡ built limits bytes = l ∙ ap (λ (es : List Event). tokens-of es) (sym c) in
+    let c = closes-as (told limits bytes .close) (told limits bytes .events) (a .events) (sym (outcome-told limits bytes) ∙ a .accepted) in
+    let g : ts ≡ built limits bytes = l ∙ ap (λ (es : List Event). tokens-of es) (sym (c .1)) in
     let i = not-done-means limits bytes words room k r n m (rw g at b) e in
     rw l (by-end (accepted-ends limits bytes words room k (a .events) (a .accepted) (rw l at b)) i (rw l at s))
   where

@@ -1,51 +1,47 @@
--- The job of JobSheet's sheet is done, with all its seeds, however many: what OneList asks of a text comes together. Its list of tokens, and that this is of the shape.
+-- The job of JobSheet's sheet is done, with all its seeds, however many: an instance of BlockSheet. Its list of tokens; that this is of the shape, in block form, with the list
+-- on its key's line.
 use Prim.Native.Nat.{_*_, _+_, _/_, _<_, _≤_, suc, zero, ℕ}
-use mathlib.Core.Bool.{true}
+use mathlib.Core.Bool.{false, true}
 use mathlib.Core.List.{List, [], _++_, _∷_, append-assoc, append-nil, map}
 use mathlib.Core.Path.{_∙_, _≡_, ap, refl, sym}
 use native.Mathlib.Omega.{arith}
+use lib.Dec.{eqb}
 use lib.ListN.{length, replicate}
 use borrow.Author.Tests.{le-ltb}
 use Rattle.yaml_text.specs.declared.Mark.{Mark}
 use Rattle.yaml_text.specs.Char.{'a', 'b'}
 use Rattle.yaml_text.specs.Mark.{along, origin}
-use Rattle.yaml_text.specs.Refusal.{got}
+use Rattle.yaml_text.specs.Test.{true-false}
 use Rattle.yaml_lexeme.specs.declared.Style.the-variants.{Plain}
-use Rattle.yaml_lexeme.specs.Token.{BlockEnd, StreamEnd, StreamStart, Token, empty-token, texts}
-use Rattle.yaml_lexeme.specs.Record.{record-words}
-use Rattle.yaml_scan.specs.State.{Event, State, ends-with, goes-on, put}
+use Rattle.yaml_lexeme.specs.Token.{BlockEnd, FlowSequenceStart, Kind, StreamEnd, StreamStart, Token, empty-token, texts}
+use Rattle.yaml_lexeme.specs.Record.{laid, number-of, record-words}
+use Rattle.yaml_scan.specs.State.{Event, State, put}
 use Rattle.yaml_scan.specs.Document.{forced}
-use Rattle.yaml_scan.specs.Scan.{Outcome, after-events, outcome, run, scan, scanned, standard, step}
+use Rattle.yaml_scan.specs.Scan.{Outcome, after-events, outcome, run, scan, scanned, standard}
 use Rattle.yaml_scan.specs.Open.{all-open}
 use Rattle.yaml_scan.specs.Slots.{Slot, flat, note, slot, slots, tokens-of}
 use Rattle.yaml_scan.specs.SlotLaws.{flat-append}
 use Rattle.theorems.specs.Accepted.{Accepts}
 use Rattle.yaml_stream.specs.Stream.{least-records}
+use Rattle.yaml_stream.specs.KeysNear.{run-from, run-on}
+use Rattle.yaml_stream.specs.Orderly.{part, scalar-part}
 use Rattle.yaml_stream.specs.SeedList.{before-entries, bracket-says, bracket-step, close-step, close-token, colon-says, colon-step, comma-step, comma-token, end-step, entries, last-entry, next-entry, one-given, seed-step, seed-token, simple-decode}
 use Rattle.yaml_job.specs.declared.Field.{Field}
 use Rattle.yaml_job.specs.declared.Field.the-variants.{Panel, Sample, Seeds}
-use Rattle.yaml_job.specs.Job.{follow, job, spelled}
+use Rattle.yaml_job.specs.Job.{follow, job, kind-number, spelled}
 use Rattle.yaml_job.specs.Open.{job-open}
 use Rattle.yaml_job.specs.Shape.{Entries, Shape, digit, field, next-field, next-seed, no-field, no-seed, panel-text, sample-text, seed-list, shape, times}
 use Rattle.yaml_job.specs.Reads.{ends-done}
 use Rattle.yaml_job.specs.Calls.{talk-of}
-use Rattle.yaml_job.specs.OneList.{one-list-done, run-from, run-on}
-use Rattle.yaml_job.specs.JobSheet.{Told, before-list, first-entry, heading, job-sheet, nothing, sheet-one-list, sheet-simple, then, third-line}
+use Rattle.yaml_job.specs.BlockSheet.{InBlock, OnNameLine, block-sheet-done}
+use Rattle.yaml_job.specs.JobSheet.{Scans, at-end, before-list, first-entry, heading, job-sheet, sheet-simple, then-scans, third-line}
 
--- what the run from a state says up to the text's end
-
-data Scans : State → List Event → Type 0 where
-  at-end : {s : State} {es : List Event} → step standard s ≡ got (ends-with es) → Scans s es
-  then-scans : {s t : State} {es fs : List Event} → step standard s ≡ got (goes-on es t) → Scans t fs → Scans s (es ++ fs)
+-- the run from a state to the text's end
 
 scans-run : {s : State} {es : List Event} → Scans s es → run-from standard s ≡ scanned es
 unfolding run
 scans-run (at-end e) = rw (e, run)
 scans-run {s} (then-scans {t = t} {es = es} e h) = run-on standard s t es e ∙ ap (λ (o : Outcome). after-events es o) (scans-run h)
-
-scans-told : {s u : State} {es fs : List Event} → Told es s u → Scans u fs → Scans s (es ++ fs)
-scans-told nothing h = h
-scans-told {fs = fs} (then {es = es} {fs = gs} e k) h = rw (append-assoc es gs fs) (then-scans e (scans-told k h))
 
 -- the list's tokens behind its bracket, and the text's end
 
@@ -75,7 +71,7 @@ sheet-scans : (k : ℕ) → length (job-sheet k) ≤ standard .bytes → outcome
 unfolding outcome scan
 sheet-scans k b =
     let r : Scans (third-line k) _ = then-scans (colon-step 19 3 k 7 true) (then-scans (bracket-step 19 3 k 7) (list-scans k first-entry 10 (omega arith))) in
-    let s = scans-run (scans-told (before-list k) r) in
+    let s = scans-run (before-list k _ r) in
     rw (le-ltb (standard .bytes) (length (job-sheet k)) b, simple-decode origin (job-sheet k) (sheet-simple k), outcome)
     (ap (λ (o : Outcome). after-events (put (empty-token StreamStart origin) ∷ []) o) s)
 
@@ -115,6 +111,28 @@ sheet-shape k =
     let sample = field refl (Plain, spelled Sample, refl, refl) refl (sample-text (Plain, 'a' ∷ [], refl)) in
     rw (sym (append-nil {A = ℕ} (replicate k 1))) (shape refl refl (next-field sample (next-field panel (next-field seeds no-field))) refl refl each-once)
 
+-- in block form, with the list on its key's line
+
+sheet-in-block : (k : ℕ) → InBlock (sheet-tokens k)
+unfolding all-open
+sheet-in-block k = refl
+
+-- a token that opens no list
+past : {A B : Type 0} {k : Kind} → eqb (kind-number k) (kind-number FlowSequenceStart) ≡ false → B → (k ≡ FlowSequenceStart → A) × B
+unfolding number-of laid
+past e b = ((λ f. true-false (rw f at e)), b)
+
+list-lines : (k : ℕ) (m : Mark) (p q : Token) → OnNameLine (p ∷ q ∷ list-tokens k m)
+unfolding number-of laid
+list-lines zero m p q = past refl (past refl (past refl (tt, (tt, tt))))
+list-lines (suc k) m p q = past refl (past refl (list-lines k (next-entry m) (seed-token m) (comma-token (along m))))
+
+sheet-lines : (k : ℕ) → OnNameLine (sheet-tokens k)
+unfolding all-open job-open part scalar-part
+sheet-lines k =
+    past refl (past refl (past refl (past refl (past refl (past refl (past refl (past refl (past refl (past refl (past refl
+    ((λ _. (refl, refl)), list-lines k first-entry _ _)))))))))))
+
 -- how long they are
 
 sheet-length : (k : ℕ) → length (job-sheet k) ≡ 28 + 3 * k
@@ -145,5 +163,5 @@ texts-length k = omega (arith, list-texts k first-entry)
 pub sheet-done : (k words room j : ℕ) → 28 + 3 * k ≤ standard .bytes → least-records ≤ words / record-words → 18 + k ≤ room → 17 + 2 * k < j
     → follow standard room j (job standard (job-sheet k) words) ≡ talk-of 0 (replicate k 1) ends-done
 sheet-done k words room j b w d c =
-    one-list-done (sheet-one-list k) (omega arith) words room j (sheet-tokens k) (replicate k 1) (sheet-accepted k (omega (arith, sheet-length k))) (sheet-shape k)
-    (omega (arith, tokens-length k)) w (omega (arith, texts-length k))
+    block-sheet-done standard (job-sheet k) (sheet-tokens k) (replicate k 1) words room (sheet-accepted k (omega (arith, sheet-length k))) (sheet-shape k) (sheet-in-block k) (sheet-lines k)
+    j (omega (arith, tokens-length k)) w (omega (arith, texts-length k))

@@ -82,7 +82,7 @@ lapse-gapped s p leads a f h =
     by-lapse e c (inl k) = rw k (gap-made p leads a _ f h (lapses e))
     by-lapse e c (inr k) = rw (k .0) (gap-made p leads a _ f h (stays e (k .1)))
 
-to-next-token-gapped : (s : State) → All State (Gapped s) (to-next-token s)
+pub to-next-token-gapped : (s : State) → All State (Gapped s) (to-next-token s)
 unfolding to-next-token
 to-next-token-gapped s =
     all-bind _ (all-both (skip-gap-fit _ _ _ (mark-of s) (rest-of s)) (gap-spares _ _ _ (mark-of s) (rest-of s)))

@@ -69,7 +69,7 @@ pub data IsFirstKey (n : ℕ) (ks : List Candidate) : Type 0 where
   none : Absents ks → IsFirstKey n ks
   only : possible n ks ≡ true → Absents (drop 1 ks) → IsFirstKey n ks
 
-possible-more : (n : ℕ) (c : Candidate) (ks : List Candidate) → possible n ks ≡ true → possible n (c ∷ ks) ≡ true
+pub possible-more : (n : ℕ) (c : Candidate) (ks : List Candidate) → possible n ks ≡ true → possible n (c ∷ ks) ≡ true
 unfolding possible
 possible-more n Absent ks e = e
 possible-more n (Possible required k m) ks e = rw e (or-true (eqb n k))
@@ -81,6 +81,10 @@ possible-more n (Possible required k m) ks e = rw e (or-true (eqb n k))
 possible-drop : (n : ℕ) (ks : List Candidate) → possible n (drop 1 ks) ≡ true → possible n ks ≡ true
 possible-drop n [] e = e
 possible-drop n (c ∷ ks) e = possible-more n c ks e
+
+-- what is no candidate is none of a level further out
+pub not-outer : (n : ℕ) (ks : List Candidate) → possible n ks ≡ false → possible n (drop 1 ks) ≡ false
+not-outer n ks e = by-test (possible n (drop 1 ks)) (λ f. true-false (sym (possible-drop n ks f) ∙ e)) (λ f. f)
 
 -- so it is where n is a possible key
 pub holds-possible : (n b : ℕ) (ks : List Candidate) → From n ks → Fall b ks → possible n ks ≡ true → IsFirstKey n ks
@@ -113,7 +117,7 @@ gap-holds n (gapped f spares (inside e)) h = h
 gap-holds {s} n (gapped f spares (lapses e)) h = holds-lapsed n (s .keys) h
 gap-holds {s} n (gapped f spares (stays e k)) h = holds-top n (s .keys) h
 
-gap-count : {s t : State} → Gapped s t → t .count ≡ s .count
+pub gap-count : {s t : State} → Gapped s t → t .count ≡ s .count
 gap-count (gapped f spares i) = refl
 
 gap-falls : {s t : State} → Gapped s t → Fall (s .count) (s .keys) → Fall (s .count) (t .keys)

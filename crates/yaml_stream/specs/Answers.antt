@@ -15,7 +15,7 @@ use Rattle.yaml_scan.specs.Scan.{outcome, scanned, step, stopped}
 use Rattle.yaml_scan.specs.Slots.{Slot, tokens-of}
 use Rattle.yaml_stream.specs.Stream.{Heard, Next, Stream, broken, budget, call, called, closing, ended, first-of, fresh, give, hear, possible, refusal, scanning, sought, spent, token}
 use Rattle.yaml_stream.specs.Kept.{NotesFrom, step-keeps}
-use Rattle.yaml_stream.specs.Tale.{Close, at-end, at-rule, built, outcome-of, outcome-told, told, unclosed}
+use Rattle.yaml_stream.specs.Tale.{Close, at-end, at-rule, built, closes-as, outcome-of, outcome-told, told, unclosed}
 use Rattle.yaml_stream.specs.Given.{Answered, Ends, Hears, Own, Owes, call-answers, finished, fresh-owes, so-far, stream-hears}
 
 -- what comes on every later call
@@ -103,11 +103,6 @@ comes-to-end limits bytes words room k b = by-hearing (stream-hears limits bytes
     by-hearing (so-far {ts = ts} vs e f) = let l = ap (λ (us : List Token). length us) e in absurd (omega (arith, length-append ts vs))
 
 -- a text that 01 accepts
-
-closes-as : (c : Close) (fs es : List Event) → outcome-of fs c ≡ scanned es → (c ≡ at-end) × (fs ≡ es)
-closes-as at-end fs es e = (refl, cc)
-closes-as (at-rule n m) fs es e = let z : _≡_ {A = ℕ} 0 1 = cc in absurd (omega arith)
-closes-as unclosed fs es e = let z : _≡_ {A = ℕ} 0 1 = cc in absurd (omega arith)
 
 -- the tokens given are its list, then "ended"; or, where one of the stream's own refusals is met, a beginning of it
 pub accepted-ends : (limits : Limits) (bytes : List ℕ) (words room k : ℕ) (es : List Event) → outcome limits bytes ≡ scanned es → length (tokens-of es) < k

@@ -46,7 +46,7 @@ use Rattle.yaml_stream.specs.Alone.{Absents}
 abbrev EndsHere : Lexeme → Type 0
 EndsHere l = l .token .end ≡ l .place .mark
 
-flow-scalar-ends : (flow single : Bool) (indent : ℕ) (p : Place) → All Lexeme EndsHere (scan-flow-scalar flow single indent p)
+pub flow-scalar-ends : (flow single : Bool) (indent : ℕ) (p : Place) → All Lexeme EndsHere (scan-flow-scalar flow single indent p)
 unfolding scan-flow-scalar
 flow-scalar-ends flow single indent p = all-bind _ (all-any _) (λ r _. all-bind _ (all-any _) (λ e _. all-need _ _ _ _ (holds refl)))
 

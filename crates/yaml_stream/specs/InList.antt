@@ -216,7 +216,7 @@ lists-in limits room h (then-comma {s = s} {n = n} {used = used} {xs = xs} r e c
 
 -- where none is possible, or few wait, a step is no 51
 
-pub none-crowded : (s : State) (n : ℕ) (xs : List Slot) → Absents (s .keys) → crowded s n xs ≡ false
+none-crowded : (s : State) (n : ℕ) (xs : List Slot) → Absents (s .keys) → crowded s n xs ≡ false
 unfolding crowded
 none-crowded s n xs a = rw (absents-not n (s .keys) a) (and-false (ltb most-waiting (length (flat xs))))
 

@@ -33,3 +33,9 @@ pub mod InList
 pub mod OnKeyLine
 pub mod SeedList
 pub mod Sheet
+pub mod Orderly
+pub mod StillKeys
+pub mod FetchLeaves
+pub mod StillKeysSteps
+pub mod KeysNear
+pub mod NoCrowd

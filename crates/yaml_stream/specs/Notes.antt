@@ -60,7 +60,7 @@ Notes [] = Unit {0}
 Notes (put t ∷ es) = Notes es
 Notes (put-before k ts ∷ es) = ((m : Mark) × Note m ts) × Notes es
 
-notes-append : (es fs : List Event) → Notes es → Notes fs → Notes (es ++ fs)
+pub notes-append : (es fs : List Event) → Notes es → Notes fs → Notes (es ++ fs)
 unfolding Notes
 notes-append [] fs h k = k
 notes-append (put t ∷ es) fs h k = notes-append es fs h k

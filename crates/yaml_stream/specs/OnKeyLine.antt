@@ -147,12 +147,12 @@ pub record KeyLine (limits : Limits) (s u : State) : Type 0 where
 
 -- no key is possible behind the ':', nor behind the bracket
 
-pub colon-none : {limits : Limits} {s u : State} (l : KeyLine limits s u) → Absents (l .value .keys)
+colon-none : {limits : Limits} {s u : State} (l : KeyLine limits s u) → Absents (l .value .keys)
 colon-none {limits} {s} l =
     let c = all-got (colon-uses limits s (l .at-colon) (l .required) (l .number) (l .mark) (l .first-gap) (l .colon) (l .candidate)) (l .first-step) in
     rw (c .1) (l .alone (l .outside))
 
-pub bracket-none : {limits : Limits} {s u : State} (l : KeyLine limits s u) → (in-flow u ≡ true) × Absents (u .keys)
+bracket-none : {limits : Limits} {s u : State} (l : KeyLine limits s u) → (in-flow u ≡ true) × Absents (u .keys)
 bracket-none {limits} l =
     let h = all-got (gap-absents (l .value) (colon-none l)) (l .second-gap) in
     all-got (opens-list limits (l .sequence) (l .value) (l .at-bracket) (l .second-gap) (l .bracket) (l .forbidden) h) (l .second-step)

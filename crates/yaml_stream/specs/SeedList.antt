@@ -121,10 +121,6 @@ abbrev pub last-entry : ℕ → Mark → Mark
 last-entry zero m = m
 last-entry (suc k) m = last-entry k (next-entry m)
 
-pub last-inside : (k : ℕ) (m : Mark) → 1 ≤ m .col → 1 ≤ last-entry k m .col
-last-inside zero m h = h
-last-inside (suc k) m h = last-inside k (next-entry m) (omega arith)
-
 -- before k entries; no key is possible
 abbrev pub before-entries : ℕ → Mark → ℕ → State
 before-entries k m n = in-list (entries k) m true Absent n

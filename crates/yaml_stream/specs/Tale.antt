@@ -17,7 +17,7 @@ use Rattle.yaml_scan.specs.State.{Event, News, State, ends-with, goes-on, put}
 use Rattle.yaml_scan.specs.Scan.{Outcome, after-events, after-step, begin, outcome, run, scan, scanned, spent, step, stopped}
 use Rattle.yaml_scan.specs.Slots.{tokens-of}
 use Rattle.yaml_scan.specs.Budget.{on-news}
-use Rattle.yaml_stream.specs.Kept.{From, NotesFrom, notes-append, step-keeps}
+use Rattle.yaml_stream.specs.Kept.{From, Names, NotesAt, NotesFrom, notes-both, step-names}
 
 -- how a run ends
 pub data Close : Type 0 where
@@ -76,6 +76,12 @@ after-outcome es fs at-end = refl
 after-outcome es fs (at-rule n m) = refl
 after-outcome es fs unclosed = refl
 
+-- a run that was scanned to its end
+pub closes-as : (c : Close) (fs es : List Event) → outcome-of fs c ≡ scanned es → (c ≡ at-end) × (fs ≡ es)
+closes-as at-end fs es e = (refl, cc)
+closes-as (at-rule n m) fs es e = let z : _≡_ {A = ℕ} 0 1 = cc in absurd (omega arith)
+closes-as unclosed fs es e = let z : _≡_ {A = ℕ} 0 1 = cc in absurd (omega arith)
+
 -- a case by what a step answers
 by-news : (Q : Read News → Type 0) → ((es : List Event) (s : State) → Q (got (goes-on es s))) → ((es : List Event) → Q (got (ends-with es))) → ((n : ℕ) (m : Mark) → Q (refused n m))
     → (r : Read News) → Q r
@@ -105,10 +111,15 @@ outcome-told limits bytes =
         ap (λ (o : Outcome). after-events (s ∷ []) o) (run-tale limits (suc (length cs)) (begin cs)) ∙ after-outcome (s ∷ []) (t .events) (t .close)
     by-text (refused n m) = refl
 
--- what is put in goes in from number n on, where the candidates name tokens from there on
+-- tokens are put in only before those of which P holds, where it holds of what the candidates name and of all later tokens
+pub tale-names : (P : ℕ → Type 0) (limits : Limits) (k : ℕ) (s : State) → ((j : ℕ) → s .count ≤ j → P j) → Names P (s .keys) → NotesAt P (tale limits k s .events)
+unfolding tale
+tale-names P limits zero s b h = tt
+tale-names P limits (suc k) s b h =
+    on-news (λ r. NotesAt P (in-step r (λ t. tale limits k t) .events)) (step-names P limits s b h)
+    (λ es t i. notes-both P es (tale limits k t .events) (i .0) (tale-names P limits k t (λ j c. b j (omega (arith, i .2))) (i .1))) (λ es i. i) (λ _ _. tt)
+
+-- from number n on, where the candidates name tokens from there on
 pub tale-notes : (n : ℕ) (limits : Limits) (k : ℕ) (s : State) → n ≤ s .count → From n (s .keys) → NotesFrom n (tale limits k s .events)
-unfolding tale NotesFrom
-tale-notes n limits zero s b h = tt
-tale-notes n limits (suc k) s b h =
-    on-news (λ r. NotesFrom n (in-step r (λ t. tale limits k t) .events)) (step-keeps n limits s b h)
-    (λ es t i. notes-append n es (tale limits k t .events) (i .0) (tale-notes n limits k t (omega (arith, i .2)) (i .1))) (λ es i. i) (λ _ _. tt)
+unfolding NotesFrom
+tale-notes n limits k s b h = tale-names (λ j. n ≤ j) limits k s (λ j i. omega arith) h

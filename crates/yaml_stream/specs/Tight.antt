@@ -153,13 +153,13 @@ thin-note n ts [] b h = tt
 thin-note zero ts (x ∷ xs) b h = (b, h .1)
 thin-note (suc n) ts (x ∷ xs) b h = (h .0, thin-note n ts xs b (h .1))
 
-thin-waits : (n : ℕ) (xs : List Slot) (es : List Event) → NotesThin es → Thin xs → Thin (waits n xs es)
+pub thin-waits : (n : ℕ) (xs : List Slot) (es : List Event) → NotesThin es → Thin xs → Thin (waits n xs es)
 unfolding waits slots NotesThin
 thin-waits n xs [] k h = h
 thin-waits n xs (put t ∷ es) k h = thin-waits n (xs ++ (slot t [] ∷ [])) es k (thin-more xs t h)
 thin-waits n xs (put-before j ts ∷ es) k h = thin-waits n (note (j - n) ts xs) es (k .1) (thin-note (j - n) ts xs (k .0) h)
 
-thin-flat : (xs : List Slot) → Thin xs → length (flat xs) ≤ 3 * length xs
+pub thin-flat : (xs : List Slot) → Thin xs → length (flat xs) ≤ 3 * length xs
 unfolding flat
 thin-flat [] h = le-refl _
 thin-flat (x ∷ xs) h = omega (arith, flat-length x xs, h .0, thin-flat xs (h .1))
@@ -192,11 +192,11 @@ move-thin {t} s (begins {pair = p} {r = r} sequence m e k) =
     then-thin (fs ++ gs) t (only-append fs gs (only-if p FlowMappingStart m) (only-if (r .starts) (block-start sequence) m))
 move-thin s (uses {pair = p} {m = m} {r = r} e b c) = (omega (arith, goes-in-length p (r .starts) m, not-both b), tt)
 
-abbrev ThinOn : News → Type 0
+abbrev pub ThinOn : News → Type 0
 ThinOn (goes-on es t) = NotesThin es
 ThinOn (ends-with es) = Unit {0}
 
-step-thin : (limits : Limits) (s : State) → All News ThinOn (step limits s)
+pub step-thin : (limits : Limits) (s : State) → All News ThinOn (step limits s)
 step-thin limits s = step-by limits s by-news
   where
     by-news : (t : State) → Gapped s t → (w : News) → Moves (unrolled-state t) w → Takes (unrolled-state t) w → ThinOn (preceded (block-ends (unrolled t .ended) (mark-of t)) w)

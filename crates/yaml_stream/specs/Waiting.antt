@@ -8,6 +8,7 @@ use native.Mathlib.Omega.{arith}
 use lib.Dec.{eqb, ltb}
 use lib.ListN.{length}
 use borrow.Author.Tests.{eqb-true, ltb-false}
+use Rattle.yaml_text.specs.declared.Mark.{Mark}
 use Rattle.yaml_text.specs.Refusal.{got}
 use Rattle.yaml_text.specs.Test.{both-true, by-test, true-false}
 use Rattle.yaml_text.specs.All.{all-both, all-got}
@@ -20,10 +21,11 @@ use Rattle.yaml_scan.specs.Scan.{step}
 use Rattle.yaml_scan.specs.Slots.{Slot, flat, slot, slots}
 use Rattle.yaml_scan.specs.Candidates.{Fall}
 use Rattle.yaml_scan.specs.Budget.{on-news}
-use Rattle.yaml_stream.specs.Stream.{Stream, after-news, behind, broken, budget, call, closing, crowded, fresh, give, most-waiting, possible, ready, scanning, sought, stepped, waits}
+use Rattle.yaml_stream.specs.Stream.{Next, Stream, after-news, behind, broken, budget, call, closing, crowded, ended, fresh, give, hear, most-waiting, on-answer, possible, ready, refusal, scanning, sought, spent, stepped, token, waits}
 use Rattle.yaml_stream.specs.Kept.{From, step-keeps}
 use Rattle.yaml_stream.specs.Waits.{flat-length, from-next, waits-append, waits-length}
 use Rattle.yaml_stream.specs.Changes.{behind-by, fresh-by, give-by, stepped-by}
+use Rattle.yaml_stream.specs.Answers.{refused-stays}
 use Rattle.yaml_stream.specs.Depth.{depth, step-shallow}
 use Rattle.yaml_stream.specs.Alone.{Absents, IsFirstKey, absents-not, holds-none, holds-possible, step-last}
 use Rattle.yaml_stream.specs.Here.{Behind, Levelled, levelled-alone, step-behind, step-levelled}
@@ -215,6 +217,21 @@ sought-reaches limits room (suc k) y r =
 pub call-reaches : (limits : Limits) (room : ℕ) {x : Stream} (y : Stream) → StreamReaches limits room x y → StreamReaches limits room x (call limits room y .stream)
 unfolding call
 call-reaches limits room y r = then-give (sought-reaches limits room (budget y) y r)
+
+-- a refusal heard is that of a stream that the calls come to
+pub hear-breaks : (limits : Limits) (room k : ℕ) {w : Stream} (x : Stream) (n : ℕ) (m : Mark) → StreamReaches limits room w x → hear limits room k x .last ≡ refusal n m
+    → StreamReaches limits room w (broken n m)
+unfolding hear
+hear-breaks limits room zero x n m r e = let z : _≡_ {A = ℕ} 0 1 = cc in absurd (omega arith)
+hear-breaks limits room (suc k) {w} x n m r e =
+    by-answer (call limits room x .answer) refl (λ f. hear-breaks limits room k (call limits room x .stream) n m (call-reaches limits room x r) f) e
+  where
+    by-answer : (a : Next) → call limits room x .answer ≡ a → (hear limits room k (call limits room x .stream) .last ≡ refusal n m → StreamReaches limits room w (broken n m))
+        → on-answer a (call limits room x .stream) (λ y. hear limits room k y) .last ≡ refusal n m → StreamReaches limits room w (broken n m)
+    by-answer (token t) i h f = h f
+    by-answer ended i h f = let z : _≡_ {A = ℕ} 0 1 = cc in absurd (omega arith)
+    by-answer (refusal j p) i h f = rw (refused-stays limits room x n m (i ∙ f)) at (call-reaches limits room x r)
+    by-answer spent i h f = let z : _≡_ {A = ℕ} 0 1 = cc in absurd (omega arith)
 
 -- before each scanning step at most 4,096 tokens wait
 pub waiting-before : (limits : Limits) (bytes : List ℕ) (words room : ℕ) {s : State} {n used : ℕ} {xs : List Slot}

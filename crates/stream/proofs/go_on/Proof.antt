@@ -1,5 +1,5 @@
 -- Where 1 or 52 is answered no stream is held; else there is more to scan, or what is held says the answer.
-use mathlib.Core.Path.{_∙_, sym}
+use mathlib.Core.Path.{_∙_}
 use denote.Ref.{now}
 use native.Mathlib.Omega.{arith}
 use Rattle.stream.proofs.Called.{few-not, last-calls, long-not, scan-gives, scan-last}
@@ -66,11 +66,8 @@ returns-3 c =
 scan-on-requires : tie.Need-scan-on-requires
 scan-on-requires c κs = search needs
 
-has-some-requires : tie.Need-has-some-requires
-has-some-requires c κs = search needs
-
-give-first-requires : tie.Need-give-first-requires
-give-first-requires c κs = search needs
+gives-requires : tie.Need-gives-requires
+gives-requires c κs = search needs
 
 same-length-7 : tie.Need-same-length-7
 same-length-7 c = search needs
@@ -86,10 +83,11 @@ same-length-10 c = search needs
 
 returns-4 : tie.Need-returns-4
 returns-4 c =
-    let i = c .before .before .before .before .before .before .before .before .before .before .before .before .before .before .before .before .before .before .before .before .before .before .before .before .before .before .before .before .before .before .before .before .before .before in
+    let i = c .before .before .before .before .before .before .before .before .before .before .before .before .before .before .before .before .before .before .before .before .before .before .before .before .before .before .before .before .before .before .before in
     let s = i .args in
-    let o = c .before .before .before .before .before .before .before .before .before .before .before .before .before .before .before .before .before .before .before .before .scan-on in
-    scan-gives (s .limits) (now (s .text)) (now (s .held)) (now (s .words)) (now (s .bytes)) (o .last .1 .0) (o .last .1 .1 .1 .0) (o .last .1 .1 .1 .1 .0) (i .pre .4) (i .pre .0) (i .pre .1) (c .before .before .before .before .before .before .before .before .before .before .before .before .before .before .before .before .before .before .before .before .before .before .before .before .before .before .before .if1 .left) (i .pre .3) (o .ensures) (o .kept .1 .0 ∙ i .pre .4) (sym (c .before .before .before .before .before .before .before .before .before .before .before .has-some .ensures) ∙ c .before .before .before .before .before .before .before .before .before .before .if4 .taken) (c .before .before .before .before .before .before .give-first .ensures)
+    let o = c .before .before .before .before .before .before .before .before .before .before .before .before .before .before .before .before .before .scan-on in
+    let g = c .before .before .before .before .before .before .before .gives in
+    scan-gives (s .limits) (now (s .text)) (now (s .held)) (now (s .words)) (now (s .bytes)) (o .last .1 .0) (o .last .1 .1 .1 .0) (o .last .1 .1 .1 .1 .0) (i .pre .4) (i .pre .0) (i .pre .1) (c .before .before .before .before .before .before .before .before .before .before .before .before .before .before .before .before .before .before .before .before .before .before .before .before .if1 .left) (i .pre .3) (o .ensures) (g .ensures) (o .kept .1 .0 ∙ i .pre .4) (c .if4 .taken)
 
 last-answer-requires-2 : tie.Need-last-answer-requires-2
 last-answer-requires-2 c κs = search needs
@@ -108,11 +106,12 @@ same-length-14 c = search needs
 
 returns-5 : tie.Need-returns-5
 returns-5 c =
-    let i = c .before .before .before .before .before .before .before .before .before .before .before .before .before .before .before .before .before .before .before .before .before .before .before .before .before .before .before .before .before in
+    let i = c .before .before .before .before .before .before .before .before .before .before .before .before .before .before .before .before .before .before .before .before .before .before .before .before .before .before .before .before .before .before .before .before .before .before .before .before in
     let s = i .args in
-    let o = c .before .before .before .before .before .before .before .before .before .before .before .before .before .before .before .scan-on in
+    let o = c .before .before .before .before .before .before .before .before .before .before .before .before .before .before .before .before .before .before .before .before .before .before .scan-on in
+    let g = c .before .before .before .before .before .before .before .before .before .before .before .before .gives in
     let a = c .before .before .last-answer2 in
-    scan-last (s .limits) (now (s .text)) (now (s .held)) (now (s .words)) (now (s .bytes)) (o .last .1 .0) (o .last .1 .1 .1 .0) (o .last .1 .1 .1 .1 .0) (i .pre .4) (i .pre .0) (i .pre .1) (c .before .before .before .before .before .before .before .before .before .before .before .before .before .before .before .before .before .before .before .before .before .before .if1 .left) (i .pre .3) (o .ensures) (sym (c .before .before .before .before .before .before .has-some .ensures) ∙ c .before .before .before .before .before .if4 .left) (a .ensures .0) (a .ensures .1)
+    scan-last (s .limits) (now (s .text)) (now (s .held)) (now (s .words)) (now (s .bytes)) (o .last .1 .0) (o .last .1 .1 .1 .0) (o .last .1 .1 .1 .1 .0) (i .pre .4) (i .pre .0) (i .pre .1) (c .before .before .before .before .before .before .before .before .before .before .before .before .before .before .before .before .before .before .before .before .before .before .before .before .before .before .before .before .before .if1 .left) (i .pre .3) (o .ensures) (g .ensures) (c .before .before .before .before .before .if4 .left) (a .ensures .0) (a .ensures .1)
 
 pub go-on-spec : {M : Type 1} → statement M
 go-on-spec =
@@ -135,8 +134,7 @@ go-on-spec =
     same-length-6
     returns-3
     scan-on-requires
-    has-some-requires
-    give-first-requires
+    gives-requires
     same-length-7
     same-length-8
     same-length-9

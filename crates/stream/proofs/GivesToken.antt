@@ -1,6 +1,6 @@
 -- Where a token can be given, a call gives the definition's and the stream behind it is held: it is the first of those that calls give, whatever comes behind them.
 use Prim.Native.Nat.{_*_, _+_, _<_, _≤_, ℕ}
-use mathlib.Core.Bool.{true}
+use mathlib.Core.Bool.{Bool, false, true}
 use mathlib.Core.List.{List, [], _++_, _∷_}
 use mathlib.Core.Path.{_∙_, _≡_, ap, refl, subst, sym}
 use native.Mathlib.Omega.{arith}
@@ -10,14 +10,16 @@ use Rattle.yaml_text.specs.declared.Mark.{Mark}
 use Rattle.yaml_lexeme.specs.Token.{Token, token-bytes}
 use Rattle.yaml_lexeme.specs.Record.{record-words}
 use Rattle.yaml_scan.specs.declared.Limits.{Limits}
+use Rattle.yaml_scan.specs.Scan.{standard}
 use Rattle.yaml_scan.specs.State as definition
 use Rattle.yaml_scan.specs.Slots.{Slot, flat}
 use Rattle.yaml_stream.specs.Ahead.{CallsGive, gives}
 use Rattle.yaml_stream.specs.Stream.{Called, Stream, call, called, least-records, token}
-use Rattle.driver.specs.Held.{base-at, counts-held, held-words, level-at, mark-at, number-at, phase-at, seen-held, slot-at, until-at, word}
+use Rattle.driver.specs.Held.{Modest, base-at, counts-held, held-words, level-at, mark-at, number-at, phase-at, seen-held, slot-at, until-at, word}
+use Rattle.stream.specs.declared.Next.{Next}
 use Rattle.stream.specs.declared.Next.the-variants as next
-use Rattle.stream.specs.Holds.{Breaks, Calls, Closes, Holds, Lent, Says, Scans, breaks, closes, fresh-state, scans, text-given}
-use Rattle.stream.specs.Words.{Gives, has-some, refusal-held}
+use Rattle.stream.specs.Holds.{Breaks, Calls, Closes, Holds, Lent, Promises, Says, Scans, breaks, closes, fresh-state, scans, text-given}
+use Rattle.stream.specs.Words.{Gives, MayGive, has-some, refusal-held}
 use Rattle.stream.proofs.Given.{TokenGiven, given}
 use Rattle.stream.proofs.Kept.{seen-set}
 use Rattle.stream.proofs.Lends.{some-told}
@@ -99,5 +101,22 @@ module _ (limits : Limits) (text h l b h' l' r : List ℕ) (all : length h ≡ h
       let w = given b gone all g (c .waits) (o .1) in
       calls-then limits text h l b gone h' l' r w a (λ y d. breaks d e (breaks-then limits text h l b gone h' l' r w (o .0) c))
 
-  pub given-calls : {gone : List ℕ} {x : Stream} → has-some h (length l) ≡ true → Holds limits text h l b gone x → Calls limits text b h' l' b r next.Token gone x
-  given-calls s k = given-held (some-told h (length l) s) k
+-- what a call that may give one leaves
+
+module _ (limits : Limits) (text h l b : List ℕ) {t h' l' t' : List ℕ} {v : Bool} (g : MayGive h l t h' l' t' v) where
+  pub given-calls : length h ≡ held-words → v ≡ true → Promises limits text h l b h' l' b t' next.Token
+  given-calls all e gone x k = given-held limits text h l b h' l' t' all (g .given e) (some-told h (length l) (sym (g .told) ∙ e)) k
+
+module _ {h l t h' l' t' : List ℕ} {v : Bool} (g : MayGive h l t h' l' t' v) (e : v ≡ false) where
+  pub none-given : has-some h' (length l') ≡ false
+  none-given = rw (g .stays e .0, g .stays e .1) (sym (g .told) ∙ e)
+
+  -- so the call scans, within the limits of 01
+  pub scan-asked : {limits : Limits} → limits ≡ standard → length h ≡ held-words → length t ≡ record-words
+      → Modest limits × (1 ≤ limits .entries) × (has-some h' (length l') ≡ false) × (length h' ≡ held-words) × (length t' ≡ record-words)
+  scan-asked i j k =
+      let s = g .stays e in
+      (rw i (record { bytes = omega arith; levels = omega arith; entries = omega arith }), rw i (omega arith), none-given, ap length (s .0) ∙ j, ap length (s .2) ∙ k)
+
+  pub scan-calls : {limits : Limits} {text b h₂ l₂ b₂ r : List ℕ} {a : Next} → limits ≡ standard → Promises limits text h' l' b h₂ l₂ b₂ r a → Promises standard text h l b h₂ l₂ b₂ r a
+  scan-calls i p = rw (i, g .stays e .0, g .stays e .1) at p
