@@ -3,15 +3,15 @@
 use Prim.Native.Nat.{_%_, _+_, _-_, _<_, _≤_, suc, zero, ℕ}
 use mathlib.Core.Bool.{Bool, _&&_, and-false, false, true}
 use mathlib.Core.List.{List, [], _∷_}
-use mathlib.Core.Path.{_≡_, subst}
+use mathlib.Core.Path.{_∙_, _≡_, subst, sym}
 use native.Mathlib.Numerals.{add-one}
 use native.Mathlib.Omega.{arith}
 use lib.Dec.{eqb, leb, ltb}
 use lib.ListN.{drop, drop-of-length-le, getD, length, length-drop, take}
 use lib.Seq.{drop-cons, getD-drop, getD-take, length-take-le}
-use borrow.Author.Tests.{eqb-true, lt-leb, ltb-false, ltb-true}
+use borrow.Author.Tests.{eqb-true, leb-true, lt-leb, ltb-false, ltb-true}
 use Rattle.yaml_text.specs.Pick.{pick}
-use Rattle.yaml_text.specs.Test.{by-test}
+use Rattle.yaml_text.specs.Test.{by-test, true-false}
 
 -- 1 for a byte of the class, else 0
 unfoldable pub one-of : (ℕ → Bool) → ℕ → ℕ
@@ -95,6 +95,13 @@ module _ {p : ℕ → Bool} {s : List ℕ} where
             rw (getD-take (e - at) (drop at s) (i - at) 0 (omega arith), getD-drop at s (i - at) 0, j) at c;
       }
 
+-- a block whose first byte is of another class
+pub first-out : (p : ℕ → Bool) (s : List ℕ) (at e : ℕ) → at < e → e ≤ length s → p (getD s at 0) ≡ false → all-of p (take (e - at) (drop at s)) ≡ false
+first-out p s at e o h f =
+    by-test (all-of p (take (e - at) (drop at s)))
+    (λ t. true-false (sym (each-block {p = p} {s = s} {at = at} {e = e} (omega arith) h t .each at (omega arith) o) ∙ f))
+    (λ t. t)
+
 -- the blocks of 16 bytes of the class that stand from at on, up to r
 pub record Blocks (p : ℕ → Bool) (s : List ℕ) (at r : ℕ) : Type 0 where
   pub each : Each p s at r
@@ -116,6 +123,18 @@ module _ {p : ℕ → Bool} {s : List ℕ} {start at : ℕ} where
 
   pub blocks-out : SomeBlocks p s start at → length s < at + 16 → Blocks p s start at
   blocks-out w h = record { each = w .0; whole = w .1; last = rw (lt-leb (at + 16) (length s) h) }
+
+-- none, where the first byte is of another class
+pub blocks-none : {p : ℕ → Bool} {s : List ℕ} {at : ℕ} → at ≤ length s → p (getD s at 0) ≡ false → Blocks p s at at
+blocks-none {p} {s} {at} h f =
+    let k : at + 16 - at ≡ 16 = omega arith in
+    record {
+      each = each-none h;
+      whole = omega arith;
+      last = by-test (leb (at + 16) (length s))
+          (λ t. rw (rw k at (first-out p s at (at + 16) (omega arith) (leb-true (at + 16) (length s) t) f)) (and-false (leb (at + 16) (length s))))
+          (λ t. rw t);
+    }
 
 -- what a byte of the class carries on holds behind them all
 module _ (p : ℕ → Bool) (s : List ℕ) (P : ℕ → Type 0) (step : (i : ℕ) → i < length s → p (getD s i 0) ≡ true → P i → P (i + 1)) where

@@ -1,37 +1,17 @@
-// Handing over the seeds of a job: a line for each, and the closing record to the caller.
-mod progress;
+// The lines of the seeds of a job, written through a room; and how far a long job is.
+pub mod progress;
 
-ghost use mathlib.Core.Path.{_≡_};
 ghost use Prim.Native.Nat.{_+_, _≤_};
-ghost use lib.ListN.{length, replicate};
-ghost use Rattle.job.specs.Own.{job-words};
-ghost use Rattle.handing.specs.Closes.{Ends, Tells};
-use job::JOB_WORDS;
-use job::next_seed;
+ghost use lib.ListN.{length};
 use printing::put_numbers;
-use yaml_job::Closing;
-use yaml_job::JobAnswer;
-
-// How a job ended.
-pub enum Handed {
-    // With its closing record. The lines of all its seeds are written.
-    Closed(Closing),
-    // A line could not be written.
-    Unwritten,
-    // No job comes to this.
-    Lost,
-}
 
 // The longest line.
 const LINE: usize = 11;
 
-// By demand 3 no more seeds come.
-const MOST_CALLS: u32 = 2_097_156;
-
 // How many bytes of the room wait to be written, and whether all before them were.
-struct Waiting {
-    used: usize,
-    good: bool,
+pub struct Waiting {
+    pub used: usize,
+    pub good: bool,
 }
 
 // Room for a line: what waits is written where there is none.
@@ -52,7 +32,7 @@ fn make_room(fd: i32, room: &[u8], n: usize) -> Waiting
     }
 }
 
-fn put_seed(fd: i32, room: &mut [u8], n: usize, value: u32) -> Waiting
+pub fn put_seed(fd: i32, room: &mut [u8], n: usize, value: u32) -> Waiting
     requires { ⌜ (n ≤ length (now room)) × (11 ≤ length (now room)) × (length (now room) ≤ 65_536) ⌝ }
     ensures { λ r. ⌜ r .used ≤ length (now (room .entry)) ⌝ }
 {
@@ -62,62 +42,4 @@ fn put_seed(fd: i32, room: &mut [u8], n: usize, value: u32) -> Waiting
         used: next,
         good: w.good,
     }
-}
-
-// Behind the last seed: what waits is written.
-fn finish(fd: i32, waiting: &[u8], c: Closing) -> Handed
-    ensures { λ r. ⌜ Ends c r ⌝ }
-{
-    if io::write_all(fd, waiting) {
-        return Handed::Closed(c);
-    }
-    Handed::Unwritten
-}
-
-fn hand_seeds(
-    fd: i32,
-    room: &mut [u8],
-    state: &mut [u32; JOB_WORDS],
-    text: &[u8],
-    words: &mut [u32],
-    bytes: &mut [u8],
-) -> Handed
-    requires { ⌜ (11 ≤ length (now room)) × (length (now room) ≤ 65_536) × (now state ≡ replicate job-words 0) ⌝ }
-    ensures { λ r. ⌜ Tells (now (text .entry)) (length (now (words .entry))) (length (now (bytes .entry))) r ⌝ }
-{
-    let mut p = progress::start();
-    let mut n = 0;
-    let mut i: u32 = 0;
-    while i < MOST_CALLS {
-        let a = next_seed(state, text, words, bytes);
-        match a {
-            JobAnswer::Seed { value, count } => {
-                let w = put_seed(fd, room, n, value);
-                if !w.good {
-                    progress::end(p);
-                    return Handed::Unwritten;
-                }
-                p = progress::tell(p, count);
-                n = w.used;
-            }
-            JobAnswer::Closed(c) => {
-                progress::end(p);
-                return finish(fd, &room[..n], c);
-            }
-            JobAnswer::Lost => {
-                return Handed::Lost;
-            }
-        }
-        i += 1;
-    }
-    Handed::Lost
-}
-
-// Writes the seeds of the job that a text is, 65,536 bytes at a time, and says on a terminal how far it is.
-pub fn hand_over(fd: i32, text: &[u8], words: &mut [u32], bytes: &mut [u8]) -> Handed
-    ensures { λ r. ⌜ Tells (now (text .entry)) (length (now (words .entry))) (length (now (bytes .entry))) r ⌝ }
-{
-    let mut room = io::large_buffer();
-    let mut state = [0u32; JOB_WORDS];
-    hand_seeds(fd, &mut room, &mut state, text, words, bytes)
 }

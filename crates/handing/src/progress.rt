@@ -2,7 +2,7 @@
 use libc::STDERR_FILENO;
 
 // Whether standard error is a terminal; the latest second; whether a second has begun since the start; whether a line stands on the terminal.
-pub(crate) struct Progress {
+pub struct Progress {
     on: bool,
     second: i64,
     begun: bool,
@@ -14,7 +14,7 @@ fn this_second() -> i64 {
     libc::time(&mut t)
 }
 
-pub(crate) fn start() -> Progress {
+pub fn start() -> Progress {
     Progress {
         on: libc::isatty(STDERR_FILENO) == 1,
         second: this_second(),
@@ -48,7 +48,7 @@ fn next_second(p: Progress, second: i64, count: u32) -> Progress {
 }
 
 // The clock is read once in 1,024 seeds.
-pub(crate) fn tell(p: Progress, count: u32) -> Progress {
+pub fn tell(p: Progress, count: u32) -> Progress {
     if !p.on {
         return p;
     }
@@ -62,7 +62,7 @@ pub(crate) fn tell(p: Progress, count: u32) -> Progress {
     next_second(p, second, count)
 }
 
-pub(crate) fn end(p: Progress) {
+pub fn end(p: Progress) {
     if p.shown {
         clear_line();
     }

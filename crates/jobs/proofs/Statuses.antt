@@ -12,9 +12,9 @@ use Rattle.yaml_job.specs.declared.Closing.the-variants.{Done, NotDone}
 use Rattle.sheets.specs.declared.Sheet.{Sheet}
 use Rattle.sheets.specs.declared.Sheet.the-variants.{Whole}
 use Rattle.sheets.specs.Sheet.{Within}
-use Rattle.handing.specs.declared.Handed.{Handed}
-use Rattle.handing.specs.declared.Handed.the-variants as handed
-use Rattle.handing.specs.Closes.{Tells}
+use Rattle.jobs.specs.declared.hand.Handed.{Handed}
+use Rattle.jobs.specs.declared.hand.Handed.the-variants as handed
+use Rattle.jobs.specs.Closes.{Tells}
 use Rattle.jobs.specs.Status.{Answers, Closed, ReadAnswers, closes, done-status, kept, none, not-kept, status-of, unwritten, whole}
 
 -- a job that closed

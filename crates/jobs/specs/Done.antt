@@ -12,7 +12,7 @@ use Rattle.yaml_job.specs.declared.Closing.{Closing}
 use Rattle.yaml_job.specs.declared.Closing.the-variants.{Done, NotDone}
 use Rattle.yaml_job.specs.Done.{JobDone, done-means}
 use Rattle.yaml_job.specs.Job.{follow, job}
-use Rattle.handing.specs.Closes.{Closes, most-calls}
+use Rattle.jobs.specs.Closes.{Closes, most-calls}
 use Rattle.jobs.specs.Status.{Answers, NoAnswer, ReadAnswers, closes, long, none, nothing, status-of, unread, unwritten, whole}
 
 pub record IsDone (text : List ℕ) (words room : ℕ) (allowed : Bool) : Type 0 where

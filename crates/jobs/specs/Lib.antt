@@ -1,2 +1,4 @@
+pub mod Closes
+pub mod Few
 pub mod Status
 pub mod Done

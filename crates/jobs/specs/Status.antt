@@ -7,7 +7,7 @@ use lib.ListN.{length, take}
 use Rattle.yaml_text.specs.Pick.{pick}
 use Rattle.yaml_job.specs.declared.Closing.{Closing}
 use Rattle.yaml_job.specs.declared.Closing.the-variants.{Done, NotDone}
-use Rattle.handing.specs.Closes.{Closes}
+use Rattle.jobs.specs.Closes.{Closes}
 
 -- 0: done; 1: not done; 4: done, but no seed, where that is not allowed
 abbrev pub done-status : ℕ → Bool → ℕ

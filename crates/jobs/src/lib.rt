@@ -1,4 +1,5 @@
 // `job`: the old files, the sheet; then the job.
+mod hand;
 mod old;
 mod output;
 mod run;

@@ -1,13 +1,13 @@
 // The job that a text is.
 ghost use lib.ListN.{length};
 ghost use Rattle.jobs.specs.Status.{Answers, Closed};
+use crate::hand::Handed;
+use crate::hand::hand_over;
 use crate::output::drop_output;
 use crate::output::fail_output;
 use crate::output::finish_output;
 use crate::status::status_of;
 use closings::save_record;
-use handing::Handed;
-use handing::hand_over;
 use libc::STDERR_FILENO;
 use messages::say_refusal;
 use saving::Begun;

@@ -1,11 +1,6 @@
-// Counts, of bytes and of calls.
+// How many calls give all tokens of a text.
 ghost use Prim.Native.Nat.{_≤_};
-
-pub fn least(a: usize, b: usize) -> usize
-    ensures { λ r. ⌜ (r ≤ a) × (r ≤ b) ⌝ }
-{
-    if a < b { a } else { b }
-}
+use showing::count::least;
 
 // So many calls give all tokens of a text, and the answer behind them: demand 3 has no more than 2c + 3 tokens for c characters, and a longer text has none.
 pub fn enough_calls(text: &[u8]) -> usize

@@ -3,7 +3,7 @@ ghost use mathlib.Core.Bool.{false};
 ghost use mathlib.Core.Path.{_≡_};
 ghost use Prim.Native.Nat.{_+_, _-_, _<_, _^_, _≤_};
 ghost use lib.ListN.{drop, getD, length};
-ghost use Rattle.yaml_text.specs.Class.{is-z, peek};
+ghost use Rattle.yaml_text.specs.Class.{is-blank, is-z, peek};
 ghost use Rattle.yaml_text.specs.Mark.{along-by};
 ghost use Rattle.yaml_text.specs.Refusal.{got};
 ghost use Rattle.yaml_text.specs.Utf8.{chars, first};
@@ -44,6 +44,16 @@ fn ends_at_colon(text: &[u8], at: usize, flow: bool) -> bool
 {
     let d = look(text, at);
     is_blank_or_breakz(d) | flow & is_flow(d)
+}
+
+// Whether a byte is a blank. One from 128 up is compared with neither of them, since a text may have nothing but such bytes.
+fn is_blank_byte(b: u8) -> bool
+    ensures { λ r. ⌜ r ≡ is-blank b ⌝ }
+{
+    if 127 < b {
+        return false;
+    }
+    is_blank(b as u32)
 }
 
 // Whether a plain scalar ends at the byte b below 128 that stands at a place. blank: after a blank.
@@ -114,12 +124,15 @@ fn text_length(text: &[u8], at: usize, flow: bool, blank: bool, b: u8) -> usize
     len
 }
 
-// Past the blocks of 16 ordinary bytes here.
+// Past the blocks of 16 ordinary bytes here. Many scalars have not one such byte behind their first character, and for them no block is looked at.
 fn past_blocks(text: &[u8], start: usize) -> usize
     requires { ⌜ start ≤ length (now text) ⌝ }
     ensures { λ r. ⌜ Blocks ordinary (now (text .entry)) start r ⌝ }
 {
     let mut at = start;
+    if !is_ordinary(byte(text, at)) {
+        return at;
+    }
     while at + 16 <= text.len() {
         if all_of(&text[at..at + 16], ByteClass::Ordinary) {
             at += 16;
@@ -153,7 +166,7 @@ fn text_end(text: &[u8], start: Place, flow: bool) -> Place
         if is_ordinary(b) {
             at += 1;
             end = at;
-        } else if is_blank(b as u32) {
+        } else if is_blank_byte(b) {
             at += 1;
         } else {
             let n = text_length(text, at, flow, end < at, b);

@@ -46,16 +46,17 @@ pub struct Quote {
     pub start: Mark,
 }
 
-// The state of the reading: where, what came before, how many bytes of text so far.
+// The state of the reading: how many bytes of text so far, where, what came before.
+// The count and the place stand first here and in `End`, in the same order, so that a turn's answer is kept in registers: else each goes through memory.
 pub struct Progress {
+    pub count: usize,
     pub place: Place,
     pub mode: Mode,
-    pub count: usize,
 }
 
-// The place behind the closing quote and the bytes of the text, or a refusal.
+// The bytes of the text and the place behind the closing quote, or a refusal.
 pub enum End {
-    Closed { place: Place, count: usize },
+    Closed { count: usize, place: Place },
     Refused(Refusal),
 }
 

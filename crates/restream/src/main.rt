@@ -4,7 +4,7 @@ mod handed;
 mod head;
 mod taken;
 
-ghost use Prim.Native.Nat.{_≤_};
+ghost use Prim.Native.Nat.{_<_, _^_, _≤_};
 ghost use lib.ListN.{length};
 use handed::say_job;
 use head::least;
@@ -23,23 +23,52 @@ const MOST_TEXT: usize = 10_752;
 
 const MOST_BYTES: usize = 16_128;
 
-// 7 bytes stand before each number, ` words=` and ` bytes=`.
+// What a line says: how many bytes the text has, how many words and bytes are lent to it, and whether it is taken as a job.
+struct Asked {
+    size: usize,
+    words: usize,
+    bytes: usize,
+    job: bool,
+}
+
+// Stores the text of a line. 7 bytes stand before each number, ` words=` and ` bytes=`. No more is lent than there is.
+fn read_asked(line: &[u8], text: &mut [u8], words: usize, bytes: usize) -> Asked
+    requires { ⌜ length (now text) ≤ 10_752 ⌝ }
+    ensures { λ r. ⌜ (r .size ≤ length (now (text .exit))) × (r .words ≤ words) × (r .bytes ≤ bytes) ⌝ }
+{
+    let n = read_hex(line, text);
+    let from = 2 * n + 7;
+    let to = number_end(line, from);
+    Asked {
+        size: n,
+        words: least(read_number(line, from) as usize, words),
+        bytes: least(read_number(line, to + 7) as usize, bytes),
+        job: number_end(line, to + 7) < line.len(),
+    }
+}
+
+// What taking the tokens of a text gives, or the job that it is.
+fn say_text(text: &[u8], words: &mut [u32], bytes: &mut [u8], job: bool)
+    requires { ⌜ (length (now text) < 2 ^ 30) × (length (now bytes) ≤ 16_128) ⌝ }
+{
+    if job {
+        say_job(text, words, bytes);
+    } else {
+        say_taken(text, words, bytes);
+    }
+}
+
 fn restream_line(line: &[u8], words: &mut [u32], bytes: &mut [u8])
     requires { ⌜ length (now bytes) ≤ 16_128 ⌝ }
 {
     let mut space = [0u8; MOST_TEXT];
-    let n = read_hex(line, &mut space);
-    let from = 2 * n + 7;
-    let to = number_end(line, from);
-    let w = least(read_number(line, from) as usize, words.len());
-    let b = least(read_number(line, to + 7) as usize, bytes.len());
+    let h = read_asked(line, &mut space, words.len(), bytes.len());
+    let n = h.size;
+    let w = h.words;
+    let b = h.bytes;
     io::write_all(STDOUT_FILENO, line);
     io::write_all(STDOUT_FILENO, b" => ");
-    if number_end(line, to + 7) < line.len() {
-        say_job(&space[0..n], &mut words[0..w], &mut bytes[0..b]);
-        return;
-    }
-    say_taken(&space[0..n], &mut words[0..w], &mut bytes[0..b]);
+    say_text(&space[0..n], &mut words[0..w], &mut bytes[0..b], h.job);
 }
 
 // The rooms hold what the text before left there.

@@ -1,14 +1,8 @@
 // Lists the tokens of a text as they come, one a line: `LINE:COLUMN Kind`, then the style of a scalar, and texts in quotes.
-mod kind;
-mod out;
-
 ghost use mathlib.Core.Path.{_≡_};
 ghost use lib.IntN.{pos};
 ghost use Rattle.stream.specs.declared.Next.the-variants.{Ended};
 ghost use Rattle.tokens.specs.Accepted.{Accepted, gives-none};
-use crate::kind::put_token;
-use crate::out::Waiting;
-use crate::out::flush;
 use driver::held::HELD_WORDS;
 use messages::count::enough_calls;
 use messages::say_refusal;
@@ -16,6 +10,9 @@ use records::RECORD_WORDS;
 use records::found::token_of;
 use stream::Next;
 use stream::next_token;
+use token_lines::kind::put_token;
+use token_lines::out::Waiting;
+use token_lines::out::flush;
 use yaml_lexeme::Recorded;
 use yaml_text::Mark;
 use yaml_text::Refusal;

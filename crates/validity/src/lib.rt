@@ -1,10 +1,12 @@
 // The validity pass: well-formed UTF-8 without NUL, or refusal 2 or 3 with its mark.
 ghost use mathlib.Core.Path.{_≡_};
-ghost use Prim.Native.Nat.{_+_, _<_, _≤_};
-ghost use lib.ListN.{drop, getD, length};
+ghost use Prim.Native.Nat.{_+_, _-_, _<_, _≤_};
+ghost use lib.ListN.{drop, getD, length, take};
 ghost use Rattle.yaml_text.specs.Utf8.{first};
 ghost use Rattle.yaml_text.specs.Mark.{origin};
 ghost use Rattle.yaml_text.specs.Decode.{decode};
+ghost use Rattle.chars.specs.Ascii.{low};
+ghost use Rattle.chars.specs.Each.{all-of};
 ghost use Rattle.validity.specs.Checked.{checked};
 ghost use Rattle.validity.specs.declared.Checked.the-variants.{Refused};
 ghost use Rattle.validity.specs.Sound.{PassesTo, block-end, good-len, sound};
@@ -98,6 +100,17 @@ fn block_end(at: usize, n: usize) -> usize
     if n - at < 64 { n } else { at + 64 }
 }
 
+// Whether the block from `at` to `e` is ASCII without NUL. Where its first byte is not, the others are not looked at.
+fn is_ascii(s: &[u8], at: usize, e: usize) -> bool
+    requires { ⌜ (at < e) × (e ≤ length (now s)) × (e ≤ at + 64) ⌝ }
+    ensures { λ r. ⌜ r ≡ all-of low (take (e - at) (drop at (now (s .entry)))) ⌝ }
+{
+    if 127 < s[at] {
+        return false;
+    }
+    all_of(&s[at..e], ByteClass::Ascii)
+}
+
 // Whether a text is well-formed without NUL: by blocks, and by characters only where a block is not plain.
 fn is_sound(s: &[u8]) -> bool
     ensures { λ r. ⌜ r ≡ sound (now (s .entry)) ⌝ }
@@ -105,7 +118,7 @@ fn is_sound(s: &[u8]) -> bool
     let mut at = 0;
     while at < s.len() {
         let e = block_end(at, s.len());
-        if all_of(&s[at..e], ByteClass::Ascii) {
+        if is_ascii(s, at, e) {
             at = e;
         } else {
             let i = go_slow(s, at, e);

@@ -36,15 +36,12 @@ add-at c = omega (arith, loop-again c .within)
 loop-less : tie.Need-loop-less Inv-loop μ-loop
 loop-less c = omega (arith, loop-again c .within)
 
-cast-is-blank : tie.Need-cast-is-blank Inv-loop μ-loop
-cast-is-blank c = search needs
-
-is-blank-requires : tie.Need-is-blank-requires Inv-loop μ-loop
-is-blank-requires c κs = search needs
+is-blank-byte-requires : tie.Need-is-blank-byte-requires Inv-loop μ-loop
+is-blank-byte-requires c κs = search needs
 
 -- over a blank
 loop-again-2 : tie.Need-loop-again-2 Inv-loop μ-loop
-loop-again-2 c = let k = c .before .before .before .before in on-blank (k .before .loop .inv) _ (k .byte .ensures) (sym (c .before .is-blank .ensures) ∙ c .if2 .taken)
+loop-again-2 c = let k = c .before .before .before .before in on-blank (k .before .loop .inv) _ (k .byte .ensures) (sym (c .before .is-blank-byte .ensures) ∙ c .if2 .taken)
 
 add-at-2 : tie.Need-add-at-2 Inv-loop μ-loop
 add-at-2 c = omega (arith, loop-again-2 c .within)
@@ -67,7 +64,7 @@ returns c =
 loop-again-3 : tie.Need-loop-again-3 Inv-loop μ-loop
 loop-again-3 c =
     let k = c .before .before .before .before .before .before in
-    on-other (k .before .loop .inv) _ (k .byte .ensures) (sym (c .before .before .before .is-blank .ensures) ∙ c .before .before .if2 .left) _ (c .before .text-length .ensures) (c .if3 .left)
+    on-other (k .before .loop .inv) _ (k .byte .ensures) (sym (c .before .before .before .is-blank-byte .ensures) ∙ c .before .before .if2 .left) _ (c .before .text-length .ensures) (c .if3 .left)
 
 add-at-3 : tie.Need-add-at-3 Inv-loop μ-loop
 add-at-3 c = omega (arith, loop-again-3 c .within)
@@ -94,8 +91,7 @@ text-end-spec =
     add-at
     loop-less
     loop-again
-    cast-is-blank
-    is-blank-requires
+    is-blank-byte-requires
     add-at-2
     loop-less-2
     loop-again-2

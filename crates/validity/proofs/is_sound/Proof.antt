@@ -33,7 +33,7 @@ abbrev G : Type 0
 G = tie.After-go-slow Inv-loop μ-loop
 
 abbrev taken : G → B
-taken g = g .before .before .before .before
+taken g = g .before .before .before
 
 slow : (g : G) → Went (S (taken g .before .before)) (taken g .before .before .loop .at) (taken g .block-end .result) (g .go-slow .result)
 slow g = went (omega (arith, taken g .block-end .ensures)) (taken g .block-end .ensures .2) (g .go-slow .ensures)
@@ -44,26 +44,17 @@ loop-holds c = (search needs, refl)
 block-end-requires : tie.Need-block-end-requires Inv-loop μ-loop
 block-end-requires c κs = search needs
 
-sub-all-of : tie.Need-sub-all-of Inv-loop μ-loop
-sub-all-of c = search needs
-
-part-all-of-start : tie.Need-part-all-of-start Inv-loop μ-loop
-part-all-of-start c = search needs
-
-part-all-of-end : tie.Need-part-all-of-end Inv-loop μ-loop
-part-all-of-end c = search needs
-
-all-of-requires : tie.Need-all-of-requires Inv-loop μ-loop
-all-of-requires c κs = search needs
+is-ascii-requires : tie.Need-is-ascii-requires Inv-loop μ-loop
+is-ascii-requires c κs = search needs
 
 loop-less : tie.Need-loop-less Inv-loop μ-loop
 loop-less c = search needs
 
 loop-again : tie.Need-loop-again Inv-loop μ-loop
 loop-again c =
-    let b = c .before .before .before in
+    let b = c .before .before in
     let l = b .before .before in
-    (search needs, l .loop .inv .1 ∙ sound-block (each-block (omega (arith, b .block-end .ensures)) (b .block-end .ensures .2) (sym (c .before .all-of .ensures) ∙ c .if1 .taken)))
+    (search needs, l .loop .inv .1 ∙ sound-block (each-block (omega (arith, b .block-end .ensures)) (b .block-end .ensures .2) (sym (c .before .is-ascii .ensures) ∙ c .if1 .taken)))
 
 go-slow-requires : tie.Need-go-slow-requires Inv-loop μ-loop
 go-slow-requires c κs = search needs
@@ -92,10 +83,7 @@ is-sound-spec =
     μ-loop
     loop-holds
     block-end-requires
-    sub-all-of
-    part-all-of-start
-    part-all-of-end
-    all-of-requires
+    is-ascii-requires
     loop-less
     loop-again
     go-slow-requires

@@ -6,10 +6,10 @@ use Rattle.messages.proofs.bracket.open_given.Statement.{statement}
 use Rattle.messages.proofs.bracket.open_given.Tie as tie
 
 abbrev Inv-loop : tie.InvT-loop
-Inv-loop opens₀ text words₀ bytes₀ held₀ token₀ depth₀ left₀ opens words bytes held token depth left = (length words ≡ length words₀) × (length bytes ≡ length bytes₀)
+Inv-loop opens₀ held₀ text words₀ bytes₀ token₀ depth₀ left₀ opens held words bytes token depth left = (length words ≡ length words₀) × (length bytes ≡ length bytes₀)
 
 abbrev μ-loop : tie.MeasureT-loop
-μ-loop opens₀ text words₀ bytes₀ held₀ token₀ depth₀ left₀ opens words bytes held token depth left = left
+μ-loop opens₀ held₀ text words₀ bytes₀ token₀ depth₀ left₀ opens held words bytes token depth left = left
 
 enough-calls-requires : tie.Need-enough-calls-requires Inv-loop μ-loop
 enough-calls-requires c κs = search needs

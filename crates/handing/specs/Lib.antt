@@ -1,2 +1,0 @@
-pub mod Closes
-pub mod Few
