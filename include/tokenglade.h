@@ -71,7 +71,7 @@ void tokenglade_scan(const uint8_t *text, size_t text_len, uint32_t *words, size
    written, and nothing outside them and text is read. But where they are not as said above, what it says may be anything: tokens without end, ended without
    StreamEnd, or any number, kind, style, mark, offset and length. A text of c characters has at most 2 c + 3 tokens: stop there where a state may be damaged.
    state, text, words, bytes, token and answer must not overlap; a pointer may be anything where its length is 0.
-   It takes some 2 KB of stack, whatever the text, and no other memory. Threads may call it at the same time, each with a state, words, bytes, token and
+   It takes some 2.5 KB of stack, whatever the text, and no other memory. Threads may call it at the same time, each with a state, words, bytes, token and
    answer of its own; they may share the text. */
 void tokenglade_next(uint32_t state[TOKENGLADE_STATE], const uint8_t *text, size_t text_len, uint32_t *words, size_t words_len, uint8_t *bytes, size_t bytes_len, uint32_t token[TOKENGLADE_RECORD_WORDS], uint32_t answer[5]);
 
@@ -83,7 +83,7 @@ void tokenglade_next(uint32_t state[TOKENGLADE_STATE], const uint8_t *text, size
 /* Hands over the next seed of a job sheet, or says how the job ended, and returns in every case.
 
    A job sheet is one mapping with the fields sample, panel and seeds, each once, in any order. sample and panel hold one scalar each, of any style, empty
-   too. seeds holds a list in brackets of plain numbers from 0 to 4294967295: digits, without a leading zero but for 0 itself, with commas between; one more
+   too; their texts are not handed over here (tokenglade_next gives them). seeds holds a list in brackets of plain numbers from 0 to 4294967295: digits, without a leading zero but for 0 itself, with commas between; one more
    comma may end the list. Names may be quoted. Comments and blank lines may stand wherever YAML has them. Nothing else has a place: no document marker,
    directive or byte order mark, no anchor, tag or alias. Write it so, in block form, with the list on its key's line:
        sample: S-17
@@ -118,7 +118,7 @@ void tokenglade_next(uint32_t state[TOKENGLADE_STATE], const uint8_t *text, size
    nothing is. closing[0] 2 with number 0 comes only there. It is no closing record, tells nothing of the job, and need not come again. A text of b bytes has
    fewer than b seeds: stop there where a state may be damaged.
    state, text, words, bytes, seed and closing must not overlap; a pointer may be anything where its length is 0.
-   It takes some 2 KB of stack, whatever the text, and no other memory. Threads may call it at the same time, each with a state, words, bytes, seed and
+   It takes some 2.5 KB of stack, whatever the text, and no other memory. Threads may call it at the same time, each with a state, words, bytes, seed and
    closing of its own; they may share the text. */
 void tokenglade_job(uint32_t state[TOKENGLADE_JOB_STATE], const uint8_t *text, size_t text_len, uint32_t *words, size_t words_len, uint8_t *bytes, size_t bytes_len, uint32_t seed[2], uint32_t closing[7]);
 

@@ -171,7 +171,7 @@ fn run_named(
     ensures { λ r. ⌜ ReadAnswers (now (text .exit)) (length (now (words .entry))) (length (now (bytes .entry))) allowed r ⌝ }
 {
     if clash(sheet, record, seeds) {
-        say_wrong(b"SHEET and the FILEs of --record and --seeds are different files");
+        say_wrong(b"SHEET and the FILEs of --record and --seeds must be different files");
         return UNREAD;
     }
     if would_lose(sheet, record, seeds) {
@@ -179,7 +179,9 @@ fn run_named(
         return UNREAD;
     }
     if would_mix(record, seeds) {
-        say_wrong(b"standard output or error goes to the FILE of --record or --seeds");
+        say_wrong(
+            b"standard output or error goes to the FILE of --record or --seeds. Name another FILE",
+        );
         return UNREAD;
     }
     if !remove_old(record, seeds) {

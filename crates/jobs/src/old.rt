@@ -38,14 +38,20 @@ pub(crate) fn would_mix(record: &[u8], seeds: &[u8]) -> bool {
     out | error
 }
 
+// What an old FILE that stays may hold is of another run.
+fn say_stays(file: &[u8], why: &[u8]) {
+    io::write_all(STDERR_FILENO, file);
+    io::write_all(STDERR_FILENO, why);
+    io::write_all(
+        STDERR_FILENO,
+        b" stays as it is, and says nothing of this run. Name another FILE\n",
+    );
+}
+
 // Whether nothing but an ordinary file would be removed.
 fn may_go(file: &[u8]) -> bool {
     if is_special(of_name(file)) | is_link(file) {
-        io::write_all(STDERR_FILENO, file);
-        io::write_all(
-            STDERR_FILENO,
-            b": is no ordinary file, and stays as it is. Name another FILE\n",
-        );
+        say_stays(file, b": this is no ordinary file, and");
         return false;
     }
     true
@@ -65,6 +71,7 @@ fn remove(file: &[u8]) -> bool {
         return true;
     }
     os::fail(file);
+    say_stays(file, b": it");
     false
 }
 

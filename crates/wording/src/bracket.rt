@@ -116,7 +116,7 @@ fn put_closing(out: &mut [u8], at: usize, sign: u8, open: Open) -> usize
         return put_filled(
             out,
             at,
-            b"this < does not close the bracket that is open, or none is open. Write > instead, or remove it",
+            b"this < closes no bracket that is open. Remove it, or write > if one of the other kind is open",
             open,
             sign,
         );

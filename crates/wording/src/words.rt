@@ -6,7 +6,7 @@ use showing::put::put_text;
 use showing::rows::row_words;
 
 // A row for each refusal: its number in two digits, a blank, and the words. 42 and 47 name a bracket and are not here.
-const ROWS: [u8; 4_853] = *b"
+const ROWS: [u8; 5_016] = *b"
 01 the sheet is longer than 1,048,576 bytes. Split it into several sheets
 02 this is no text in UTF-8. Save the sheet as UTF-8
 03 a NUL character stands here. Remove it; if the sheet was saved as UTF-16, save it as UTF-8
@@ -41,15 +41,15 @@ const ROWS: [u8; 4_853] = *b"
 37 the quotes that open here hold a '\\' with a letter or sign that may not follow it. Write '\\\\' for a '\\', or use single quotes
 38 the quotes that open here hold a '\\x', '\\u' or '\\U' with too few digits: 2, 4 or 8 are wanted, of 0-9 and A-F. Add them, or write '\\\\' for a '\\'
 39 the quotes that open here hold a '\\u' or '\\U' whose digits are no character. Correct them, or write '\\\\' for a '\\'
-40 this may not follow a text in quotes. Remove it, or put all of the text in quotes; a quote inside is written '' in '...' and \\\" in \"...\"
-41 a line before this place has no ':' where one is wanted. Write it as 'name: value', or put more spaces before it if it goes on with the line above
+40 this may not follow a text in quotes. Remove it, put all of the text in quotes, or close the quotes that were left open before; a quote inside is written '' in '...' and \\\" in \"...\"
+41 a line before this place has no ':' with a blank behind it where one is wanted. Write it as 'name: value', or put more spaces before it if it goes on with the line above
 43 nothing may begin with this character here. Remove it, or put the text in quotes
 44 a blank is missing before this '#'. Put one before it, or put the text in quotes
 45 a tab stands in front of this line. Use spaces
-46 this '-', '?' or ':' may not stand here. Begin a new line for it, or put the text in quotes
+46 this '-', '?' or ':' may not stand here. In brackets write no '-', and ',' between two entries; elsewhere begin a new line for it, or put the text in quotes
 48 more than 255 lists or fields are open inside each other. Use fewer levels
 49 text follows '...' on its line. Begin a new line for it
-51 what stands in brackets here is too long for this form. Begin the list on the line of its name, as in 'seeds: [1, 2, 3]', with no braces around the sheet, and with nothing but numbers and commas in it
+51 what stands in brackets here is too long to be read as one name or entry. Begin the list on the line of its name, as in 'seeds: [1, 2, 3]', with no braces around it, with nothing but numbers in it, and with ',' between two of them
 52 the program has too little room to read any sheet. This is a fault of the program: report it
 70 this field is not known, or it was there before. A job sheet has the fields sample, panel and seeds, each once
 71 the sheet ends, and a field is missing. Add it: a job sheet has the fields sample, panel and seeds
