@@ -83,10 +83,10 @@ void tokenglade_next(uint32_t state[TOKENGLADE_STATE], const uint8_t *text, size
 /* Hands over the next seed of a job sheet, or says how the job ended, and returns in every case.
 
    A job sheet is one mapping with the fields sample, panel and seeds, each once, in any order. sample and panel hold one scalar each, of any style,
-   empty too; their texts are not handed over here (tokenglade_next gives them). seeds holds a list in brackets of plain numbers from 0 to 4294967295:
-   digits, without a leading zero but for 0 itself, with commas between; one more comma may end the list. Names may be quoted. Comments and blank lines
-   may stand wherever YAML has them. Nothing else has a place: no document marker, directive or byte order mark, no anchor, tag or alias. Write it so, in
-   block form, with the list on its key's line:
+   empty too; their texts are not handed over here (tokenglade_next gives them). seeds holds a list in brackets of
+   plain numbers from 0 to 4294967295: digits, without a leading zero but for 0 itself, with commas between; one more comma may end the list. Names may
+   be quoted. Comments and blank lines may stand wherever YAML has them. Nothing else has a place: no document marker, directive or byte order mark, no
+   anchor, tag or alias. Write it so, in block form, with the list on its key's line:
        sample: S-17
        panel: P-3
        seeds: [1, 22, 333]
