@@ -1,7 +1,6 @@
-// Words for 42 and 47, which name a bracket: rows of words in which a sign stands for what is known of it.
+// Words for 42 and 47, which name a bracket.
 ghost use Prim.Native.Nat.{_≤_};
 ghost use lib.ListN.{length};
-use showing::count::least;
 use showing::put::put_number;
 use showing::put::put_text;
 use utf8::byte;
@@ -70,31 +69,40 @@ fn put_end(out: &mut [u8], at: usize, open: Open) -> usize
     put_quoted(out, at, closing(open.sign))
 }
 
-// A byte of the words, or what it stands for: '@' for the open bracket, '$' for what closes it, '<' for the sign at the place, '>' for the closing bracket of the
-// other kind.
-fn put_part(out: &mut [u8], at: usize, b: u8, open: Open, sign: u8) -> usize
+// Words about an open bracket, up to what closes it.
+fn put_adding(
+    out: &mut [u8],
+    at: usize,
+    before: &[u8],
+    open: Open,
+    between: &[u8],
+    behind: &[u8],
+) -> usize
     ensures { λ r. ⌜ r ≤ length (now (out .exit)) ⌝ }
 {
-    match b {
-        b'@' => put_open(out, at, open),
-        b'$' => put_end(out, at, open),
-        b'<' => put_quoted(out, at, sign),
-        b'>' => put_quoted(out, at, other_kind(sign)),
-        _ => put_text(out, at, &[b]),
-    }
+    let from = put_text(out, at, before);
+    let named = put_open(out, from, open);
+    let told = put_text(out, named, between);
+    let end = put_end(out, told, open);
+    put_text(out, end, behind)
 }
 
-// Words, with what is known of the bracket in them.
-fn put_filled(out: &mut [u8], at: usize, s: &[u8], open: Open, sign: u8) -> usize
+// Words about a closing bracket and the one of the other kind.
+fn put_instead(
+    out: &mut [u8],
+    at: usize,
+    before: &[u8],
+    sign: u8,
+    between: &[u8],
+    behind: &[u8],
+) -> usize
     ensures { λ r. ⌜ r ≤ length (now (out .exit)) ⌝ }
 {
-    let mut next = least(at, out.len());
-    let mut i = 0;
-    while i < s.len() {
-        next = put_part(out, next, s[i], open, sign);
-        i += 1;
-    }
-    next
+    let from = put_text(out, at, before);
+    let named = put_quoted(out, from, sign);
+    let told = put_text(out, named, between);
+    let end = put_quoted(out, told, other_kind(sign));
+    put_text(out, end, behind)
 }
 
 // At the end of the text.
@@ -102,9 +110,9 @@ fn put_unclosed(out: &mut [u8], at: usize, open: Open) -> usize
     ensures { λ r. ⌜ r ≤ length (now (out .exit)) ⌝ }
 {
     if open.sign == 0 {
-        return put_filled(out, at, b"@ is never closed. Add $", open, 0);
+        return put_text(out, at, b"a bracket is never closed. Add ']' or '}'");
     }
-    put_filled(out, at, b"this @ is never closed. Add $", open, 0)
+    put_adding(out, at, b"this ", open, b" is never closed. Add ", b"")
 }
 
 // At a closing bracket. Where none is known that is open; where it is of the kind of the latest that is known to be open, so that one of the other kind was opened
@@ -113,29 +121,33 @@ fn put_closing(out: &mut [u8], at: usize, sign: u8, open: Open) -> usize
     ensures { λ r. ⌜ r ≤ length (now (out .exit)) ⌝ }
 {
     if open.sign == 0 {
-        return put_filled(
+        return put_instead(
             out,
             at,
-            b"this < closes no bracket that is open. Remove it, or write > if one of the other kind is open",
-            open,
+            b"this ",
             sign,
+            b" closes no bracket that is open. Remove it, or write ",
+            b" if one of the other kind is open",
         );
     }
     if closing(open.sign) == sign {
-        return put_filled(
+        return put_instead(
             out,
             at,
-            b"this < comes before the > of a bracket that is still open. Write > before it",
-            open,
+            b"this ",
             sign,
+            b" comes before the ",
+            b" of a bracket that is still open. Write that before it",
         );
     }
-    put_filled(
+    let named = put_open(out, at, open);
+    put_instead(
         out,
-        at,
-        b"@ is still open, and < does not close it. Write > instead, or before it",
-        open,
+        named,
+        b" is still open, and ",
         sign,
+        b" does not close it. Write ",
+        b" instead, or before it",
     )
 }
 
@@ -143,12 +155,13 @@ fn put_closing(out: &mut [u8], at: usize, sign: u8, open: Open) -> usize
 fn put_before_marker(out: &mut [u8], at: usize, open: Open) -> usize
     ensures { λ r. ⌜ r ≤ length (now (out .exit)) ⌝ }
 {
-    put_filled(
+    put_adding(
         out,
         at,
-        b"@ is still open at this line. Add $ before it",
+        b"",
         open,
-        0,
+        b" is still open at this line. Add ",
+        b" before it",
     )
 }
 
@@ -156,12 +169,13 @@ fn put_before_marker(out: &mut [u8], at: usize, open: Open) -> usize
 pub(crate) fn put_too_far_left(out: &mut [u8], at: usize, open: Open) -> usize
     ensures { λ r. ⌜ r ≤ length (now (out .exit)) ⌝ }
 {
-    put_filled(
+    put_adding(
         out,
         at,
-        b"this line begins too far left, and @ is still open. Put more spaces before the line, or add $ before it",
+        b"this line begins too far left, and ",
         open,
-        0,
+        b" is still open. Put more spaces before the line, or add ",
+        b" before it",
     )
 }
 
