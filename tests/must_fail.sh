@@ -370,7 +370,7 @@ lies() {
     chmod +x liar
     fails "python3 tests/program.py ./liar 20 $1"
 }
-passes "python3 tests/program.py $real 20 inputs usage outputs records kills progress tokens"
+passes "python3 tests/program.py $real 20 inputs usage outputs records kills progress tokens wording"
 lies vectors '"$real" "$@" | head -n -1'
 lies vectors '"$real" "$@"; exit 0'
 lies vectors '"$real" "$@" 2> /dev/null'
@@ -385,6 +385,9 @@ lies records 'exec "$real" job "$2" --allow-empty "$@"'
 lies kills 'for f in "$@"; do case $f in */record) echo done 60000 > "$f" ;; esac; done; sleep 0.3; exec "$real" "$@"'
 lies progress 'exec "$real" "$@" 2> /dev/null'
 lies tokens '"$real" "$@" | grep -v Value'
+lies wording '"$real" "$@" | sed s/DocumentEnd/DocumentStart/'
+lies wording '"$real" "$@" 2> said; s=$?; sed "s/may not stand here/has no words/" said >&2; exit $s'
+lies wording '"$real" "$@" 2> said; s=$?; sed "s/: .* \[2[23]\]/: the same [22]/" said >&2; exit $s'
 
 # a benchmark whose programs only say that they ran
 mkdir measured

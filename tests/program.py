@@ -260,6 +260,48 @@ def tokens():
     print("tokens in words", flush=True)
 
 
+def names(what):
+    """What include/tokenglade_names.h says by number."""
+    text = open(os.path.join(ROOT, "include/tokenglade_names.h")).read()
+    return {int(n): name for n, name in re.findall(rf'^TOKENGLADE_{what}\((\d+), "(.*)"\)$', text, re.M)}
+
+
+def wording():
+    """Each refusal that a text can meet has words of its own, and each kind its name: the shortest vectors that have them."""
+    texts, kinds, left = {}, names("KIND"), set(names("KIND"))
+    vectors = [line.rstrip("\n").partition(" => ") for line in open(os.path.join(ROOT, "tests/vectors/all.txt"))]
+    for text, _, answer in sorted(vectors, key=lambda v: len(v[0])):
+        text, said = bytes.fromhex(text), answer.split("|")
+        if answer.startswith("R "):
+            texts.setdefault(int(answer.split()[1]), text)
+            continue
+        given = [int(record.split()[0]) for record in said[1].split(";")]
+        if left & set(given):
+            left -= set(given)
+            r = run(["tokens"], text)
+            listed = [line.split()[1] for line in r.stdout.decode().splitlines()]
+            expect(r.returncode == 0 and listed == [kinds[k] for k in given], f"{text!r}: other kinds", r)
+    expect(not left, f"kinds that no vector has: {left}")
+    texts[1] = b"#" * 1_048_577
+    texts[51] = b"[" + b"a," * 2048
+    found = {}
+    for number, text in texts.items():
+        r = run(["tokens"], text)
+        m = re.match(rf".*?: ([^:].*) \[{number}\]\n".encode(), r.stderr.split(b"standard input", 1)[1])
+        expect(r.returncode == 1 and m and b"has no words" not in m[1], f"{number} in words", r)
+        found[number] = m[1]
+    sheets = {70: "x: 1", 71: "", 72: "seeds: [x]", 73: "- a"}
+    for number, text in sheets.items():
+        r = run(["job"], text)
+        m = re.match(rf"standard input:\d+:\d+: (.*) \[{number}\]\n".encode(), r.stderr)
+        expect(r.returncode == 1 and m and b"has no words" not in m[1], f"{number} in words", r)
+        found[number] = m[1]
+    # 4 and 5 are about room that the program has, and 52 about a program that lends too little
+    expect(set(found) == set(names("REFUSAL")) - {4, 5, 52}, f"other refusals: {sorted(set(found) ^ set(names('REFUSAL')))}")
+    expect(len(set(found.values())) == len(found), "two refusals with the same words")
+    print(f"words for {len(found)} refusals, names of {len(kinds)} kinds", flush=True)
+
+
 def alone(part):
     """The part in a folder of its own, which is gone behind it."""
     with tempfile.TemporaryDirectory() as folder:
@@ -268,12 +310,12 @@ def alone(part):
 
 def main():
     parts = {part.__name__: part for part in [inputs, usage, outputs, records, kills]}
-    wanted = sys.argv[3:] or ["vectors", *parts, "progress", "tokens"]
+    wanted = sys.argv[3:] or ["vectors", *parts, "progress", "tokens", "wording"]
     for name in wanted:
         if name in parts:
             alone(parts[name])
         else:
-            {"vectors": vectors, "progress": progress, "tokens": tokens}[name]()
+            {"vectors": vectors, "progress": progress, "tokens": tokens, "wording": wording}[name]()
 
 
 main()
