@@ -1,4 +1,6 @@
 // The words behind `job` and `tokens`: options, and the names of files.
+#![tactic(auto)]
+
 pub mod word;
 
 ghost use Rattle.io.specs.Counts.{IsPrefixLen};
@@ -6,7 +8,7 @@ ghost use Rattle.io.specs.Counts.{IsPrefixLen};
 use word::{Word, is, word_at};
 
 // Which words name the sheet, the record's file and the seeds' file, by their numbers; 0 where none does. Whether an empty list of seeds is allowed.
-#[derive(Drop)]
+#[derive(Clone, Copy)]
 pub struct Plan {
     pub sheet: usize,
     pub record: usize,
@@ -15,7 +17,7 @@ pub struct Plan {
 }
 
 // What is wrong with a word.
-#[derive(Drop)]
+#[derive(Clone, Copy)]
 pub enum Fault {
     // No such option here.
     Unknown,
@@ -33,14 +35,14 @@ pub enum Fault {
 }
 
 // What the words come to.
-#[derive(Drop)]
+#[derive(Clone, Copy)]
 pub enum Arguments {
     Plan(Plan),
     Wrong { fault: Fault, at: usize },
 }
 
 // What the next word is for.
-#[derive(Drop)]
+#[derive(Clone, Copy)]
 enum Wants {
     Anything,
     // Behind `--record` and `--seeds`.
@@ -51,14 +53,14 @@ enum Wants {
 }
 
 // What one more word comes to.
-#[derive(Drop)]
+#[derive(Clone, Copy)]
 enum Taken {
     Goes { plan: Plan, wants: Wants },
     Stops { fault: Fault, at: usize },
 }
 
 // The words behind `job`, or those behind `tokens`, which has no options.
-#[derive(Drop)]
+#[derive(Clone, Copy)]
 pub enum Verb {
     Job,
     Tokens,

@@ -1,6 +1,6 @@
 // What a word looks like.
 
-#[derive(Drop)]
+#[derive(Clone, Copy)]
 pub(crate) enum Word {
     // Also `-`.
     Name,

@@ -1,4 +1,6 @@
 // The content of a block scalar, line by line (8.1.2, 8.1.3).
+#![tactic(auto)]
+
 ghost use Rattle.std.specs.Prelude.{◌+◌, ◌<◌, ◌^◌, ◌≤◌, ◌≡◌, drop, replicate};
 ghost use Rattle.yaml_text.specs.Char.{line_feed};
 ghost use Rattle.yaml_text.specs.Class.{none_left};
@@ -39,7 +41,7 @@ pub fn ends_at(text: &[u8], at: usize) -> bool
 }
 
 // What holds for the whole scalar.
-#[derive(Drop)]
+#[derive(Clone, Copy)]
 pub struct Layout {
     pub literal: bool,
     pub chomping: Chomping,
@@ -47,14 +49,14 @@ pub struct Layout {
 }
 
 // Between content lines: before the first, so many lines after the header's; behind one that opened with a blank or not, and so many more.
-#[derive(Drop)]
+#[derive(Clone, Copy)]
 pub enum Between {
     Ahead { lines: u32 },
     Behind { blank: bool, lines: u32 },
 }
 
 // The state of the reading: where, what stands before it, how many bytes of text so far.
-#[derive(Drop)]
+#[derive(Clone, Copy)]
 pub struct Content {
     pub place: Place,
     pub line: Between,

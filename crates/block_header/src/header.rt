@@ -10,7 +10,7 @@ use chars::mark::Place;
 use utf8::byte;
 use yaml_lexeme::Chomping;
 
-#[derive(Drop)]
+#[derive(Clone, Copy)]
 pub struct Header {
     pub chomping: Chomping,
     // The indentation indicator; 0: none.
@@ -18,7 +18,7 @@ pub struct Header {
     pub place: Place,
 }
 
-#[derive(Drop)]
+#[derive(Clone, Copy)]
 pub enum Headed {
     Got(Header),
     // The indicator 0.

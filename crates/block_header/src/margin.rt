@@ -53,7 +53,7 @@ pub fn content_column(text: &[u8], parent: u32, increment: u32, p: Place) -> u32
     parent - 1 + increment
 }
 
-#[derive(Drop)]
+#[derive(Clone, Copy)]
 pub struct Margin {
     // How many lines ended.
     pub breaks: u32,

@@ -1,4 +1,6 @@
 // K7: block scalars (29 to 32).
+#![tactic(auto)]
+
 ghost use Rattle.std.specs.Prelude.{◌+◌, ◌<◌, ◌^◌, ◌≤◌, ◌≡◌, replicate};
 ghost use Rattle.yaml_text.specs.Char.{line_feed};
 ghost use Rattle.yaml_text.specs.Pick.{pick};
@@ -22,7 +24,7 @@ use yaml_lexeme::{Chomping, Kind, Style};
 use yaml_text::Mark;
 
 // What a block scalar is read with. parent: the block's own indent + 1; used: how many bytes of text stand before its own.
-#[derive(Drop)]
+#[derive(Clone, Copy)]
 pub struct Block {
     pub start: Mark,
     pub literal: bool,

@@ -3,7 +3,7 @@ ghost use Rattle.std.specs.Prelude.{◌≤◌, ◌≡◌, length};
 ghost use Rattle.chars.specs.Blocks.{in_class, ordinary};
 ghost use Rattle.chars.specs.Each.{all_of, count_of, one_of};
 
-#[derive(Drop)]
+#[derive(Clone, Copy)]
 pub enum ByteClass {
     // From 1 to 127: a character other than NUL.
     Ascii,

@@ -11,7 +11,7 @@ use utf8::{byte, look};
 use yaml_text::Mark;
 
 // A byte offset into a text, with the mark of the character there.
-#[derive(Drop)]
+#[derive(Clone, Copy)]
 pub struct Place {
     pub at: usize,
     pub mark: Mark,

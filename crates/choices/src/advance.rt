@@ -12,7 +12,7 @@ use yaml_scan::Limits;
 use yaml_text::Refusal;
 
 // A state before a token, and how many blocks ended there; or a refusal.
-#[derive(Drop)]
+#[derive(Clone, Copy)]
 pub enum Advanced {
     To { state: State, ended: u32 },
     Refused(Refusal),

@@ -1,4 +1,6 @@
 // The record of a job that closed.
+#![tactic(auto)]
+
 ghost use Rattle.std.specs.Prelude.{◌<◌, ◌^◌, ◌≤◌, ◌≡◌, length};
 ghost use Rattle.printing.specs.Written.{Written};
 ghost use Rattle.closings.specs.Record.{record_text, told_column};

@@ -1,4 +1,6 @@
 // The program `tokenglade`: what stands behind its name decides. The answer is the exit status.
+#![tactic(auto)]
+
 mod listed;
 
 use crate::listed::list_plan;
@@ -10,7 +12,7 @@ use usage::status::UNREAD;
 use usage::{give_help, say_fault, say_no_command};
 
 // What the first word asks for.
-#[derive(Drop)]
+#[derive(Clone, Copy)]
 enum Asked {
     Job,
     Tokens,

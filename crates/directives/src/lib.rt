@@ -1,4 +1,6 @@
 // Directives (10 to 19).
+#![tactic(auto)]
+
 ghost use Rattle.std.specs.Prelude.{◌≡◌, ◌≤◌, length};
 ghost use Rattle.yaml_text.specs.Class.{same};
 ghost use Rattle.yaml_lexeme.specs.Directive.{directive_of, scan_directive};

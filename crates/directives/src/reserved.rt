@@ -31,7 +31,7 @@ fn put_space(out: &mut [u8], n: usize, k: usize) -> usize
 }
 
 // Where the parameters end, with where the next byte goes.
-#[derive(Drop)]
+#[derive(Clone, Copy)]
 struct Parameters {
     place: Place,
     count: usize,

@@ -17,7 +17,7 @@ use yaml_lexeme::Kind;
 use yaml_text::{Mark, Refusal};
 
 // A number with the place behind it, or a refusal.
-#[derive(Drop)]
+#[derive(Clone, Copy)]
 enum Numbered {
     Got { value: u32, place: Place },
     Refused(Refusal),

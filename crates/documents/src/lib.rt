@@ -1,4 +1,6 @@
 // What stands outside every block: document markers, byte order marks and the end of the text. Each leaves all blocks.
+#![tactic(auto)]
+
 ghost use Rattle.std.specs.Prelude.{◌≡◌, true, ◌^◌, ◌<◌, ◌≤◌, drop, length};
 ghost use Rattle.yaml_text.specs.Char.{byte_order_mark};
 ghost use Rattle.yaml_text.specs.Mark.{is_marker};

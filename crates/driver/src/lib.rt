@@ -1,4 +1,6 @@
 // Steps, one after the other: the loop of the one call, and of tokens that are given one at a time.
+#![tactic(auto)]
+
 pub mod held;
 
 ghost use Rattle.std.specs.Prelude.{◌+◌, ◌-◌, ◌^◌, ◌<◌, ◌≤◌, suc, false, true, ◌≡◌, length};
@@ -36,7 +38,7 @@ use yaml_scan::{Candidate, Choice, Limits};
 use yaml_text::{Mark, Refusal};
 
 // What steps come to.
-#[derive(Drop)]
+#[derive(Clone, Copy)]
 pub enum Outcome {
     // StreamEnd was scanned.
     Scanned(Counts),
@@ -46,7 +48,7 @@ pub enum Outcome {
 }
 
 // Behind a step: the state there; the end of the text; or a refusal.
-#[derive(Drop)]
+#[derive(Clone, Copy)]
 enum Stepped {
     On { state: State, counts: Counts },
     Ends(Counts),
@@ -54,7 +56,7 @@ enum Stepped {
 }
 
 // Behind a step: on; on, and something else is pending; enough can be given, and this is pending; or a refusal.
-#[derive(Drop)]
+#[derive(Clone, Copy)]
 enum Behind {
     On,
     More(Pending),

@@ -1,4 +1,6 @@
 // The edges of rooms and limits: each text of the vectors is scanned in rooms that are too small, and the limits of 01 are met and passed.
+#![tactic(auto)]
+
 mod limits;
 mod rooms;
 

@@ -9,7 +9,7 @@ use tokenglade::numbers_of;
 use vectors::{enough_words, line_end, read_hex};
 
 // How often a room was lent, how often the answer was the one expected, and how many words and bytes were not zero then.
-#[derive(Drop)]
+#[derive(Clone, Copy)]
 struct Tally {
     lent: u32,
     as_expected: u32,
@@ -18,7 +18,7 @@ struct Tally {
 }
 
 // A room that is too small for a text that is accepted.
-#[derive(Drop)]
+#[derive(Clone, Copy)]
 enum Small {
     // Neither words nor bytes.
     Nothing,
@@ -31,7 +31,7 @@ enum Small {
 }
 
 // What is lent, and the refusal that is expected.
-#[derive(Drop)]
+#[derive(Clone, Copy)]
 struct Loan {
     words: usize,
     bytes: usize,

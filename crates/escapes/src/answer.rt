@@ -7,7 +7,7 @@ use chars::mark::Place;
 use yaml_text::{Mark, Refusal};
 
 // A character with the place behind its escape, or a refusal.
-#[derive(Drop)]
+#[derive(Clone, Copy)]
 pub enum Escape {
     One(u32, Place),
     Refused(Refusal),

@@ -6,7 +6,7 @@ use chars::class::{as_hex, is_hex};
 use utf8::byte;
 
 // The value of some hexadecimal digits, or that they do not stand there.
-#[derive(Drop)]
+#[derive(Clone, Copy)]
 pub enum Hex {
     Value(u32),
     Missing,

@@ -13,7 +13,7 @@ use utf8::{char_at, is_tail, lead_len};
 use yaml_text::{Decoded, Mark};
 
 // Whether all trailing octets were read, or the number of the refusal.
-#[derive(Drop)]
+#[derive(Clone, Copy)]
 enum Octets {
     All,
     Refused(u32),

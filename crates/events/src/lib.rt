@@ -1,4 +1,6 @@
 // What one lexeme says, by value, and how it is counted.
+#![tactic(auto)]
+
 ghost use Rattle.std.specs.Prelude.{◌≡◌, ◌<◌, ◌^◌};
 ghost use Rattle.reading.specs.Reading.{text_size};
 ghost use Rattle.events.specs.Event.{Countable, brief_event, closing_of, counted_of, note_size, opening_if, opening_size};
@@ -6,7 +8,7 @@ ghost use Rattle.events.specs.Event.{Countable, brief_event, closing_of, counted
 use yaml_lexeme::{Kind, Token};
 
 // What goes in before the candidate, which is the token of that number.
-#[derive(Drop)]
+#[derive(Clone, Copy)]
 pub enum Note {
     Nothing,
     Key(u32),
@@ -17,7 +19,7 @@ pub enum Note {
 }
 
 // An empty token that comes first.
-#[derive(Drop)]
+#[derive(Clone, Copy)]
 pub enum Opening {
     Nothing,
     BlockSequenceStart,
@@ -27,7 +29,7 @@ pub enum Opening {
 }
 
 // What one lexeme says: so many blocks end, an empty token, the token. All of them at the token's start.
-#[derive(Drop)]
+#[derive(Clone, Copy)]
 pub struct Event {
     pub closed: u32,
     pub note: Note,
@@ -36,7 +38,7 @@ pub struct Event {
 }
 
 // How many tokens were given so far, without those put in; how many were put in; how many bytes of text.
-#[derive(Drop)]
+#[derive(Clone, Copy)]
 pub struct Counts {
     pub count: u32,
     pub put_in: u32,

@@ -1,4 +1,6 @@
 // K1: gaps between tokens; and the blanks and comment that are read after a token.
+#![tactic(auto)]
+
 ghost use Rattle.std.specs.Prelude.{◌+◌, ◌^◌, ◌≤◌, Bool, ◌≡◌, drop, length};
 ghost use Rattle.yaml_text.specs.Pick.{pick};
 ghost use Rattle.yaml_text.specs.Utf8.{chars};
@@ -112,14 +114,14 @@ pub fn blanks_and_comment(text: &[u8], start: Place) -> Reached
 }
 
 // A gap's end: where it ends, whether a simple key is allowed there, whether only blanks stand before it on its line.
-#[derive(Drop)]
+#[derive(Clone, Copy)]
 pub struct Gap {
     pub place: Place,
     pub simple_key_allowed: bool,
     pub leading_whitespace: bool,
 }
 
-#[derive(Drop)]
+#[derive(Clone, Copy)]
 pub enum Gapped {
     Got(Gap),
     Refused(Refusal),

@@ -1,4 +1,6 @@
 // The lines of the seeds of a job, written through a room; and how far a long job is.
+#![tactic(auto)]
+
 pub mod progress;
 
 ghost use Rattle.std.specs.Prelude.{◌+◌, ◌≤◌, length};
@@ -9,7 +11,7 @@ use printing::put_numbers;
 const LINE: usize = 11;
 
 // How many bytes of the room wait to be written, and whether all before them were.
-#[derive(Drop)]
+#[derive(Clone, Copy)]
 pub struct Waiting {
     pub used: usize,
     pub good: bool,

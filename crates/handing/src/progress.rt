@@ -2,7 +2,7 @@
 use libc::STDERR_FILENO;
 
 // Whether standard error is a terminal; the latest second; whether a second has begun since the start; whether a line stands on the terminal.
-#[derive(Drop)]
+#[derive(Clone, Copy)]
 pub struct Progress {
     on: bool,
     second: i64,

@@ -1,4 +1,6 @@
 // Which file it is that a name stands for.
+#![tactic(auto)]
+
 ghost use Rattle.libc.specs.Io.{Ended};
 
 use libc::PATH_MAX;
@@ -6,7 +8,7 @@ use libc::types::{stat, timespec};
 use rooms::copy;
 
 // The file, where there is one: its device and its number there, and its kind.
-#[derive(Drop)]
+#[derive(Clone, Copy)]
 pub struct Identity {
     pub found: bool,
     pub device: u64,

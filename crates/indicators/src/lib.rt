@@ -1,4 +1,6 @@
 // K4: '-' and '?'. K5: ':'.
+#![tactic(auto)]
+
 ghost use Rattle.std.specs.Prelude.{◌≡◌, ◌≤◌, length};
 ghost use Rattle.yaml_scan.specs.declared.Candidate.TheVariants as candidate;
 ghost use Rattle.yaml_scan.specs.Value.{fetch_block_entry, fetch_key, fetch_value, value_with, value_without};

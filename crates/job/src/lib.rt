@@ -1,4 +1,6 @@
 // The job reader: seeds of a job sheet, one at a time, and at the end whether the job is done.
+#![tactic(auto)]
+
 mod own;
 
 ghost use Rattle.std.specs.Prelude.{◌≤◌, ◌≡◌, length};
@@ -26,7 +28,7 @@ use yaml_text::Mark;
 pub const JOB_WORDS: usize = HELD_WORDS + OWN_WORDS;
 
 // What the reader knows between two calls, besides the stream.
-#[derive(Drop)]
+#[derive(Clone, Copy)]
 pub enum Reader {
     Reading {
         place: ShapePlace,
@@ -37,14 +39,14 @@ pub enum Reader {
 }
 
 // What a call answers, and what the reader knows then.
-#[derive(Drop)]
+#[derive(Clone, Copy)]
 struct Replied {
     answer: JobAnswer,
     reader: Reader,
 }
 
 // What one token more comes to.
-#[derive(Drop)]
+#[derive(Clone, Copy)]
 enum Asked {
     Goes { place: ShapePlace, met: Met },
     Replies(Replied),

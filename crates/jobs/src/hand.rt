@@ -8,7 +8,7 @@ use job::{JOB_WORDS, next_seed};
 use yaml_job::{Closing, JobAnswer};
 
 // How a job ended.
-#[derive(Drop)]
+#[derive(Clone, Copy)]
 pub(crate) enum Handed {
     // With its closing record. The lines of all its seeds are written.
     Closed(Closing),

@@ -1,4 +1,6 @@
 // `job`: the old files, the sheet; then the job.
+#![tactic(auto)]
+
 mod hand;
 mod old;
 mod output;

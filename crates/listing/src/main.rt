@@ -1,5 +1,7 @@
 // Lists the tokens of a sheet of up to 512 bytes: `T D`, then a line for each token; or a refusal's number and mark.
 // The sheet is standard input. Where arguments are given, each names a file that is listed so, and `-` is standard input.
+#![tactic(auto)]
+
 ghost use Rattle.std.specs.Prelude.{◌*◌, ◌+◌, ◌/◌, ◌≤◌, length};
 ghost use Rattle.yaml_lexeme.specs.Record.{record_words};
 ghost use Rattle.printing.specs.Lines.{lines_text};

@@ -1,4 +1,6 @@
 // Says a refusal in words.
+#![tactic(auto)]
+
 mod bracket;
 pub mod count;
 

@@ -1,4 +1,6 @@
 // K7: plain scalars.
+#![tactic(auto)]
+
 ghost use Rattle.std.specs.Prelude.{false, ◌≡◌, ◌+◌, ◌-◌, ◌<◌, ◌^◌, ◌≤◌, drop, get_or, length};
 ghost use Rattle.yaml_text.specs.Class.{is_blank, is_z, peek};
 ghost use Rattle.yaml_text.specs.Mark.{along_by};

@@ -6,7 +6,7 @@ use reading::{put_breaks, put_fold};
 use rooms::copy;
 
 // What came right before a character of the scalar.
-#[derive(Drop)]
+#[derive(Clone, Copy)]
 pub enum Mode {
     // A character that is text.
     Chars,

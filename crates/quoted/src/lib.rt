@@ -1,4 +1,6 @@
 // Quoted scalars (33 to 40).
+#![tactic(auto)]
+
 ghost use Rattle.std.specs.Prelude.{◌*◌, ◌<◌, ◌^◌, ◌≤◌, ◌≡◌, length};
 ghost use Rattle.yaml_text.specs.Pick.{pick};
 ghost use Rattle.yaml_lexeme.specs.declared.Style.TheVariants.{DoubleQuoted, SingleQuoted};

@@ -24,7 +24,7 @@ use utf8::{byte, char_at};
 use yaml_text::{Decoded, Mark, Refusal};
 
 // What holds for the whole scalar.
-#[derive(Drop)]
+#[derive(Clone, Copy)]
 pub struct Quote {
     pub single: bool,
     pub indent: u32,
@@ -33,7 +33,7 @@ pub struct Quote {
 
 // The state of the reading: how many bytes of text so far, where, what came before.
 // The count and the place stand first here and in `End`, in the same order, so that a turn's answer is kept in registers: else each goes through memory.
-#[derive(Drop)]
+#[derive(Clone, Copy)]
 pub struct Progress {
     pub count: usize,
     pub place: Place,
@@ -41,14 +41,14 @@ pub struct Progress {
 }
 
 // The bytes of the text and the place behind the closing quote, or a refusal.
-#[derive(Drop)]
+#[derive(Clone, Copy)]
 pub enum End {
     Closed { count: usize, place: Place },
     Refused(Refusal),
 }
 
 // A turn leads to the next one, or to the scalar's end.
-#[derive(Drop)]
+#[derive(Clone, Copy)]
 pub enum Turned {
     Goes(Progress),
     Ends(End),

@@ -1,4 +1,6 @@
 // What a lexeme reader answers: a token with the place behind it, or a refusal.
+#![tactic(auto)]
+
 ghost use Rattle.std.specs.Prelude.{◌%◌, ◌+◌, ◌^◌, ◌<◌, suc, ◌≡◌, length, replicate};
 ghost use Rattle.std.proofs.lemmas.List.Edits.{sets};
 ghost use Rattle.yaml_lexeme.specs.Fold.{fold};
@@ -12,20 +14,20 @@ use yaml_lexeme::{Kind, Text, Token};
 use yaml_text::{Mark, Refusal};
 
 // A token, with the place where the reading goes on, counted from the reader's own first byte.
-#[derive(Drop)]
+#[derive(Clone, Copy)]
 pub struct Lexeme {
     pub token: Token,
     pub next: Place,
 }
 
-#[derive(Drop)]
+#[derive(Clone, Copy)]
 pub enum Reading {
     Got(Lexeme),
     Refused(Refusal),
 }
 
 // A place, or a refusal on the way there.
-#[derive(Drop)]
+#[derive(Clone, Copy)]
 pub enum Reached {
     To(Place),
     Refused(Refusal),

@@ -1,4 +1,6 @@
 // Records: the words of a token, stored and read back, and notes on them.
+#![tactic(auto)]
+
 pub mod found;
 pub mod token;
 

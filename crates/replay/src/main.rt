@@ -1,4 +1,6 @@
 // Reads the vectors: lines `HEX => answer`. Writes each text again, with the answer that the entry gives.
+#![tactic(auto)]
+
 ghost use Rattle.std.specs.Prelude.{◌<◌, ◌^◌, ◌≤◌, length};
 ghost use Rattle.printing.specs.Written.{Written};
 ghost use Rattle.vectors.specs.Vector.{vector_line};

@@ -1,5 +1,7 @@
 // Reads lines `HEX words=W bytes=B`. Writes each again, with what taking the tokens of the text one at a time gives in rooms of W words and B bytes; or, where
 // the line goes on behind that, with the seeds and the closing record of the job that the text is.
+#![tactic(auto)]
+
 mod handed;
 mod head;
 mod taken;
@@ -20,7 +22,7 @@ const MOST_TEXT: usize = 10_752;
 const MOST_BYTES: usize = 16_128;
 
 // What a line says: how many bytes the text has, how many words and bytes are lent to it, and whether it is taken as a job.
-#[derive(Drop)]
+#[derive(Clone, Copy)]
 struct Asked {
     size: usize,
     words: usize,

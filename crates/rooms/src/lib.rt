@@ -1,4 +1,6 @@
 // Writing into lent rooms. A writer whose room is full goes on counting and stops storing: a store past the end changes nothing.
+#![tactic(auto)]
+
 ghost use Rattle.std.specs.Prelude.{◌≡◌, ◌%◌, ◌+◌, ◌-◌, ◌^◌, ◌<◌, length, set};
 ghost use Rattle.std.proofs.lemmas.List.Edits.{sets};
 ghost use Rattle.yaml_text.specs.Utf8.{char_bytes};

@@ -1,4 +1,6 @@
 // Runs of characters of a class, within a line.
+#![tactic(auto)]
+
 ghost use Rattle.std.specs.Prelude.{◌≡◌, ◌<◌, ◌^◌, drop};
 ghost use Rattle.yaml_text.specs.Utf8.{chars};
 ghost use Rattle.yaml_text.specs.Mark.{run_of};
@@ -17,7 +19,7 @@ use rooms::{clear_from, put, put_char};
 use utf8::{byte, char_at};
 use yaml_text::{Decoded, Mark, Refusal};
 
-#[derive(Drop)]
+#[derive(Clone, Copy)]
 pub enum Class {
     Alpha,
     Anchor,
@@ -55,7 +57,7 @@ pub fn run_of(text: &[u8], start: Place, class: Class) -> Place
 }
 
 // The place behind a run, with where the next byte goes; or a refusal.
-#[derive(Drop)]
+#[derive(Clone, Copy)]
 pub enum Run {
     To(Place, usize),
     Refused(Refusal),

@@ -1,4 +1,6 @@
 // Files that stand whole in their place or not there: each is written beside its place under a name of its own, and takes its place when all of it is kept.
+#![tactic(auto)]
+
 ghost use Rattle.io.specs.Counts.{IsPrefixLen};
 
 use identity::{is_same, of_name};
@@ -11,7 +13,7 @@ pub const NAME_ROOM: usize = 4104;
 const BEHIND: usize = 7;
 
 // A file that is being written: its descriptor, -1 where it could not be made, and how many bytes of the room its own name takes.
-#[derive(Drop)]
+#[derive(Clone, Copy)]
 pub struct Begun {
     pub fd: i32,
     pub named: usize,

@@ -1,4 +1,6 @@
 // The one-call entry.
+#![tactic(auto)]
+
 mod run;
 
 ghost use Rattle.std.specs.Prelude.{◌≡◌, length};
@@ -20,7 +22,7 @@ use validity::{Checked, check_text};
 use yaml_scan::Limits;
 use yaml_text::{Mark, Refusal};
 
-#[derive(Drop)]
+#[derive(Clone, Copy)]
 pub enum Answer {
     // T and D.
     Accepted(u32, u32),

@@ -1,4 +1,6 @@
 // What a token does, by the place in the shape of a job.
+#![tactic(auto)]
+
 mod number;
 
 ghost use Rattle.std.specs.Prelude.{◌≡◌, eqb};

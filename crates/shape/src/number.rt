@@ -5,7 +5,7 @@ ghost use Rattle.shape.specs.Number.{number_from, number_in};
 
 use chars::class::is_digit;
 
-#[derive(Drop)]
+#[derive(Clone, Copy)]
 pub(crate) enum Number {
     Value(u32),
     NoNumber,

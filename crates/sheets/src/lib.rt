@@ -1,11 +1,13 @@
 // Opening and reading a sheet.
+#![tactic(auto)]
+
 ghost use Rattle.std.specs.Prelude.{◌≡◌, length};
 ghost use Rattle.sheets.specs.Sheet.{Within, ending};
 
 use libc::STDIN_FILENO;
 
 // What was read of a sheet into a room.
-#[derive(Drop)]
+#[derive(Clone, Copy)]
 pub enum Sheet {
     // All of it, so many bytes: a read behind the last one answered 0.
     Whole(usize),

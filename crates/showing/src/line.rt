@@ -12,7 +12,7 @@ const WINDOW: usize = 70;
 const BEFORE: usize = 40;
 
 // What is shown of a line: these bytes of it, cut at the front or not, at the end or not; and how many characters stand before the place.
-#[derive(Drop)]
+#[derive(Clone, Copy)]
 struct Window {
     from: usize,
     to: usize,

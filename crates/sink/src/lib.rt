@@ -1,4 +1,6 @@
 // What steps say, as records in slots of the lent words, and the pass that sets them in their final places.
+#![tactic(auto)]
+
 mod block;
 
 ghost use Rattle.std.specs.Prelude.{◌≡◌, ◌*◌, ◌+◌, ◌-◌, ◌<◌, ◌^◌, ◌≤◌, length};

@@ -10,28 +10,28 @@ use crate::at_most;
 use yaml_text::{Mark, Refusal};
 
 // The indent, and how many entries are stacked.
-#[derive(Drop)]
+#[derive(Clone, Copy)]
 pub struct Indents {
     pub indent: u32,
     pub depth: usize,
 }
 
 // Indents, or that the stack is full (48).
-#[derive(Drop)]
+#[derive(Clone, Copy)]
 pub enum Stacked {
     Got(Indents),
     Refused(Refusal),
 }
 
 // Whether a start token is to be added, and the indents; or that the stack is full (48).
-#[derive(Drop)]
+#[derive(Clone, Copy)]
 pub enum Rolled {
     Got { starts: bool, indents: Indents },
     Refused(Refusal),
 }
 
 // How many blocks ended, and the indents left.
-#[derive(Drop)]
+#[derive(Clone, Copy)]
 pub struct Unrolled {
     pub ended: u32,
     pub indents: Indents,

@@ -1,4 +1,6 @@
 // The stacks that a step is lent, one slice: indent entries (K4, K6), then frames: candidates with their flow levels (K2).
+#![tactic(auto)]
+
 ghost use Rattle.std.specs.Prelude.{◌≡◌};
 ghost use Rattle.stacks.specs.Most.{at_most};
 

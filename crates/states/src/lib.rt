@@ -1,4 +1,6 @@
 // What a step knows, by value: its stacks are lent beside it.
+#![tactic(auto)]
+
 ghost use Rattle.std.specs.Prelude.{◌≡◌, ◌+◌, ◌^◌, ◌<◌, ◌≤◌, length};
 ghost use Rattle.yaml_scan.specs.Keys.{stale};
 ghost use Rattle.stacks.specs.Stack.{entry_words, stack_words};
@@ -17,7 +19,7 @@ use yaml_lexeme::Token;
 use yaml_scan::Candidate;
 use yaml_text::{Mark, Refusal};
 
-#[derive(Drop)]
+#[derive(Clone, Copy)]
 pub struct State {
     // Index + 1 directly after a quoted scalar's or closing bracket's span; 0: none.
     pub adjacent_value_allowed_at: u32,
@@ -31,7 +33,7 @@ pub struct State {
 }
 
 // What was said, with the state behind it; the same at the end of the text; or a refusal.
-#[derive(Drop)]
+#[derive(Clone, Copy)]
 pub enum Fetched {
     Goes(Event, State),
     Ends(Event),
@@ -40,7 +42,7 @@ pub enum Fetched {
 
 // What says one token, and the state behind it: a token behind the end of an implicit pair or not; '-' behind the start of
 // its block or not. Or a refusal.
-#[derive(Drop)]
+#[derive(Clone, Copy)]
 pub enum Brief {
     Goes {
         state: State,
@@ -56,7 +58,7 @@ pub enum Brief {
 }
 
 // The check of the candidate before a token: passed, or a refusal (41).
-#[derive(Drop)]
+#[derive(Clone, Copy)]
 pub enum Lapsed {
     Passed,
     Refused(Refusal),

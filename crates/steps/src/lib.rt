@@ -1,4 +1,6 @@
 // K3: one token, by which lexeme stands here.
+#![tactic(auto)]
+
 ghost use Rattle.std.specs.Prelude.{◌≡◌, false, true};
 ghost use Rattle.states.specs.Brief.{brief_fetched};
 ghost use Rattle.states.specs.Refused.{has_text};

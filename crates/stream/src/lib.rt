@@ -1,4 +1,6 @@
 // One token at a time: each call gives the next token of a text.
+#![tactic(auto)]
+
 mod give;
 mod start;
 
@@ -23,7 +25,7 @@ use yaml_scan::Limits;
 use yaml_text::Refusal;
 
 // The answer of a call.
-#[derive(Drop)]
+#[derive(Clone, Copy)]
 pub enum Next {
     // Its record was written.
     Token,

@@ -1,7 +1,8 @@
 // What waits where tokens are given one at a time; and laws of the stream's code.
+#![tactic(auto)]
 
 // The first token that can't be given yet.
-#[derive(Drop)]
+#[derive(Clone, Copy)]
 pub struct Pending {
     // Its number; where none waits, that of the next token.
     pub number: u32,

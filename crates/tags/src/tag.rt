@@ -18,7 +18,7 @@ use yaml_lexeme::Kind;
 use yaml_text::{Mark, Refusal};
 
 // The lengths of both texts, with the place behind them; or a refusal.
-#[derive(Drop)]
+#[derive(Clone, Copy)]
 enum Texts {
     Got {
         one: usize,

@@ -1,5 +1,7 @@
 // The lexemes that hold text: scalars, tags, anchors and aliases save a candidate and forbid the next; a block scalar allows it.
 // A directive leaves all blocks. Each is read first: a refusal leaves the stacks as they were.
+#![tactic(auto)]
+
 ghost use Rattle.std.specs.Prelude.{false, true, ◌≡◌, ◌<◌, ◌^◌, ◌≤◌, drop, get_or, length};
 ghost use Rattle.yaml_text.specs.Char.{'!'};
 ghost use Rattle.yaml_text.specs.Class.{is_z, peek};

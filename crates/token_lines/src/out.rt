@@ -6,7 +6,7 @@ use showing::show::{char_len, is_shown};
 use utf8::look;
 
 // How many bytes of the buffer wait to be written, and whether all before them were.
-#[derive(Drop)]
+#[derive(Clone, Copy)]
 pub struct Waiting {
     pub used: usize,
     pub good: bool,

@@ -1,4 +1,6 @@
 // The entries for callers in C and Rust.
+#![tactic(auto)]
+
 ghost use Rattle.std.specs.Prelude.{◌≡◌};
 ghost use Rattle.scanner.specs.Promise.{verdict_of};
 ghost use Rattle.tokenglade.specs.Job.{JobContinues, closed_numbers, closing_numbers, seed_numbers};

@@ -1,4 +1,6 @@
 // Lists the tokens of a text as they come, one a line: `LINE:COLUMN Kind`, then the style of a scalar, and texts in quotes.
+#![tactic(auto)]
+
 ghost use Rattle.std.specs.Prelude.{◌≡◌, pos};
 ghost use Rattle.stream.specs.declared.Next.TheVariants.{Ended};
 ghost use Rattle.tokens.specs.Accepted.{Accepted, gives_none};
@@ -18,7 +20,7 @@ use yaml_text::{Mark, Refusal};
 const OUT_BYTES: usize = 8_192;
 
 // What waits to be written behind the last token listed, and what was answered behind it; `Token` where not all can be written.
-#[derive(Drop)]
+#[derive(Clone, Copy)]
 struct Listed {
     waiting: Waiting,
     answer: Next,

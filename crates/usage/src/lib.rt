@@ -1,4 +1,6 @@
 // Help, and what is wrong with the arguments.
+#![tactic(auto)]
+
 mod help;
 pub mod status;
 

@@ -1,4 +1,6 @@
 // What character stands at a place of a text (RFC 3629).
+#![tactic(auto)]
+
 ghost use Rattle.std.specs.Prelude.{◌≡◌, ◌<◌, drop, get_or, length};
 ghost use Rattle.yaml_text.specs.Utf8.{chars, first, four, is_scalar, is_tail, len_of, three, two};
 ghost use Rattle.yaml_text.specs.Class.{peek};

@@ -1,4 +1,6 @@
 // The validity pass: well-formed UTF-8 without NUL, or refusal 2 or 3 with its mark.
+#![tactic(auto)]
+
 ghost use Rattle.std.specs.Prelude.{◌≡◌, ◌+◌, ◌-◌, ◌<◌, ◌≤◌, drop, get_or, length, take};
 ghost use Rattle.yaml_text.specs.Utf8.{first};
 ghost use Rattle.yaml_text.specs.Mark.{origin};
@@ -15,7 +17,7 @@ use utf8::{byte, char_at, four_bytes, lead_len, three_bytes, two_bytes};
 use yaml_text::{Decoded, Mark, Refusal};
 
 // Whether a text may be scanned.
-#[derive(Drop)]
+#[derive(Clone, Copy)]
 pub enum Checked {
     Sound,
     Refused(Refusal),

@@ -1,4 +1,6 @@
 // Vectors: lines that begin with a text in hexadecimal.
+#![tactic(auto)]
+
 mod write;
 
 ghost use Rattle.std.specs.Prelude.{◌≡◌, ◌*◌, ◌+◌, ◌<◌, ◌^◌, min, drop};

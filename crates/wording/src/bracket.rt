@@ -6,7 +6,7 @@ use utf8::byte;
 use yaml_text::Mark;
 
 // An open bracket, and the mark of it. The sign is 0 where none is known.
-#[derive(Drop)]
+#[derive(Clone, Copy)]
 pub struct Open {
     pub sign: u8,
     pub mark: Mark,

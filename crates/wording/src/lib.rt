@@ -1,4 +1,6 @@
 // A refusal in words: where it stands in the sheet, what is wrong, what to do, and the line of the text with a caret under the place.
+#![tactic(auto)]
+
 pub mod bracket;
 mod words;
 

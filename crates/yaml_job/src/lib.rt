@@ -1,15 +1,17 @@
 // The types of the job reader, which the definition in specs/ and the code above it share. No code.
+#![tactic(auto)]
+
 use yaml_text::Mark;
 
 // A mapping in block form, or in braces.
-#[derive(Drop)]
+#[derive(Clone, Copy)]
 pub enum Form {
     Block,
     Braces,
 }
 
 // The fields of a job.
-#[derive(Drop)]
+#[derive(Clone, Copy)]
 pub enum Field {
     Sample,
     Panel,
@@ -17,7 +19,7 @@ pub enum Field {
 }
 
 // Those met so far.
-#[derive(Drop)]
+#[derive(Clone, Copy)]
 pub struct Met {
     pub sample: bool,
     pub panel: bool,
@@ -25,7 +27,7 @@ pub struct Met {
 }
 
 // What may come next.
-#[derive(Drop)]
+#[derive(Clone, Copy)]
 pub enum ShapePlace {
     // StreamStart.
     AtStart,
@@ -52,7 +54,7 @@ pub enum ShapePlace {
 }
 
 // What a token does.
-#[derive(Drop)]
+#[derive(Clone, Copy)]
 pub enum Effect {
     // The reader goes on.
     Passes {
@@ -71,14 +73,14 @@ pub enum Effect {
 }
 
 // The closing record, with the count of all seeds handed over.
-#[derive(Drop)]
+#[derive(Clone, Copy)]
 pub enum Closing {
     Done { count: u32 },
     NotDone { number: u32, mark: Mark, count: u32 },
 }
 
 // What a call answers.
-#[derive(Drop)]
+#[derive(Clone, Copy)]
 pub enum JobAnswer {
     // A seed's value, and how many have been handed over with it.
     Seed { value: u32, count: u32 },

@@ -1,8 +1,10 @@
 // The types of tokens, which the definition in specs/ and the code above it share. No code.
+#![tactic(auto)]
+
 use yaml_text::Mark;
 
 // The styles of scalars, in the crate's order.
-#[derive(Drop)]
+#[derive(Clone, Copy)]
 pub enum Style {
     Plain,
     SingleQuoted,
@@ -12,7 +14,7 @@ pub enum Style {
 }
 
 // What stands before a character of a gap (K1).
-#[derive(Drop)]
+#[derive(Clone, Copy)]
 pub enum Before {
     // This line's blanks from column 0, no tab among them.
     Leading,
@@ -26,7 +28,7 @@ pub enum Before {
 }
 
 // What a letter behind a backslash is.
-#[derive(Drop)]
+#[derive(Clone, Copy)]
 pub enum Named {
     // It stands for one character.
     Stands(u32),
@@ -36,7 +38,7 @@ pub enum Named {
 }
 
 // What becomes of the line breaks behind a block scalar.
-#[derive(Drop)]
+#[derive(Clone, Copy)]
 pub enum Chomping {
     Strip,
     Clip,
@@ -44,14 +46,14 @@ pub enum Chomping {
 }
 
 // A text among the decoded bytes.
-#[derive(Drop)]
+#[derive(Clone, Copy)]
 pub struct Text {
     pub at: u32,
     pub len: u32,
 }
 
 // The kinds of tokens, in the crate's order, with where their texts lie.
-#[derive(Drop)]
+#[derive(Clone, Copy)]
 pub enum Kind {
     StreamStart,
     StreamEnd,
@@ -79,7 +81,7 @@ pub enum Kind {
 }
 
 // A token as code holds it.
-#[derive(Drop)]
+#[derive(Clone, Copy)]
 pub struct Token {
     pub kind: Kind,
     pub start: Mark,
@@ -87,7 +89,7 @@ pub struct Token {
 }
 
 // What words are: the record of a token, or of none.
-#[derive(Drop)]
+#[derive(Clone, Copy)]
 pub enum Recorded {
     Found(Token),
     NoToken,

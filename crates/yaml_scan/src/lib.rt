@@ -1,8 +1,10 @@
 // The types of the scan, which the definition in specs/ and the code above it share. No code.
+#![tactic(auto)]
+
 use yaml_text::Mark;
 
 // What 01 limits (1, 28, 48): bytes, flow levels, indent entries.
-#[derive(Drop)]
+#[derive(Clone, Copy)]
 pub struct Limits {
     pub bytes: usize,
     pub levels: usize,
@@ -10,7 +12,7 @@ pub struct Limits {
 }
 
 // A simple key's candidate (K2).
-#[derive(Drop)]
+#[derive(Clone, Copy)]
 pub enum Candidate {
     Absent,
     Possible {
@@ -21,7 +23,7 @@ pub enum Candidate {
 }
 
 // A flow level.
-#[derive(Drop)]
+#[derive(Clone, Copy)]
 pub struct Level {
     // Opened by '['.
     pub sequence: bool,
@@ -33,7 +35,7 @@ pub struct Level {
 }
 
 // What stands at the place of a state (K3).
-#[derive(Drop)]
+#[derive(Clone, Copy)]
 pub enum Choice {
     AtEnd,
     AtDirective,
