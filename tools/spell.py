@@ -15,7 +15,7 @@ import sys
 
 NAME = r"[^\s(){}.;,@\"«»\[\]`]+"
 DASHED = re.compile(r"(?<![\w'-])[A-Za-z_][\w']*(?:-[\w']+)+(?![\w-])")
-KIT = re.compile(r"use ((?:Rattle\.(?:std|core|io|os|libc)|mathlib|lib|Prim|borrow|denote|seplogic)\b[\w.]*)\.\{([^}]*)\}")
+KIT = re.compile(r"use ((?:Rattle\.(?:std|core|io|os|libc)|mathlib|native|lib|Prim|borrow|denote|seplogic|base|contract|mir|prog|sound|types)\b[\w.]*)\.\{([^}]*)\}")
 QUIET = re.compile(r'(?<![^\s(){}.;,])--[^\n]*|"(?:\\.|[^"\\\n])*"')
 RUST_QUIET = re.compile(r"//[^\n]*|b?\"(?:\\.|[^\"\\])*\"|b?'(?:\\x..|\\.|[^'\\\n])'", re.S)
 GOALS = re.compile(r"^(Need|After|Then|Else|At|In|Goes|Before|Start|Loop|Carried|Lts)-")

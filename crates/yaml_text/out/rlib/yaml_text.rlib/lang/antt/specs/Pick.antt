@@ -1,6 +1,0 @@
--- A choice by a test. Both values are given: a recursive call stands in an `elim` case instead.
-use Rattle.std.specs.Prelude.{Bool, false, true}
-
-abbrev pub pick : {A : Type 0} → Bool → A → A → A
-pick true a b = a
-pick false a b = b
