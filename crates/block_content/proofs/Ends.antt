@@ -3,7 +3,7 @@ use Prim.Native.Nat.{◌+◌, ◌≤◌, suc, ℕ}
 use mathlib.Core.Bool.{Bool, ◌||◌, false, true}
 use mathlib.Core.List.{List, [], ◌∷◌}
 use mathlib.Core.Path.{◌≡◌, refl}
-use native.Mathlib.Numerals.{add_one}
+use native.Mathlib.Numerals.{add-one}
 use native.Mathlib.Omega.{arith}
 use lib.ListN.{replicate, replicate-append-replicate}
 use lib.Seq.{sets}
@@ -26,7 +26,7 @@ use Rattle.reading.specs.Puts.{Puts, puts_breaks}
 module _ {before after : List ℕ} {at r : ℕ} {keeps : Bool} (n : ℕ) where
   pub breaks_kept : keeps ≡ true → (after ≡ sets before at (replicate (n + 1) 10)) × (r ≡ at + (n + 1)) → Puts before at after r (behind_breaks keeps n)
   unfolding behind_breaks
-  breaks_kept e f = rw e (rw (add_one n) at (puts_breaks (n + 1) f))
+  breaks_kept e f = rw e (rw (add-one n) at (puts_breaks (n + 1) f))
 
   pub breaks_folded : keeps ≡ false → Puts before at after r (fold (suc n)) → Puts before at after r (behind_breaks keeps n)
   unfolding behind_breaks

@@ -3,7 +3,7 @@ use Prim.Native.Nat.{◌+◌, ◌-◌, ◌≤◌, max, suc, zero, ℕ}
 use mathlib.Core.Bool.{◌&&◌, false, or-true, true}
 use mathlib.Core.List.{List, [], ◌∷◌}
 use mathlib.Core.Path.{◌∙◌, ◌≡◌, ap, refl, sym}
-use native.Mathlib.Nat.{le_max_right, max_eq_left}
+use native.Mathlib.Nat.{le-max_right, max-eq_left}
 use native.Mathlib.Omega.{arith}
 use lib.Dec.{eqb, ltb}
 use lib.ListN.{drop, get_or}
@@ -44,7 +44,7 @@ largest_break : (most : ℕ) (m : Mark) {cs : List ℕ} {n : ℕ} → Breaks cs 
 unfolding largest over half_break is_break
 largest_break most m (two {cs = cs}) h =
     let e : m.index + 1 + 1 ≡ m.index + 2 = omega arith in
-    rw (e, max_eq_left {n = max most m.col} {m = m.col} (le_max_right most m.col))
+    rw (e, max-eq_left {n = max most m.col} {m = m.col} (le-max_right most m.col))
 largest_break most m (one {c = c} {cs = cs} e f) h = rw (break_space c e, e, largest, over_break m c (peek cs 0) f e)
 largest_break most m (none e) h = true_false (sym h ∙ e)
 

@@ -3,7 +3,7 @@ use Prim.Native.Nat.{◌+◌, ◌-◌, ◌<◌, ◌≤◌, suc, ℕ}
 use mathlib.Core.Bool.{Bool, ◌&&◌, false, true}
 use mathlib.Core.List.{List, [], ◌++◌, ◌∷◌}
 use mathlib.Core.Path.{◌∙◌, ◌≡◌, ap, refl, sym}
-use native.Mathlib.Numerals.{add_one}
+use native.Mathlib.Numerals.{add-one}
 use native.Mathlib.Omega.{arith}
 use lib.Dec.{eqb, ltb}
 use lib.ListN.{drop, drop_of_length-le, get_or, length, length-drop}
@@ -51,7 +51,7 @@ module _ {s t : List ℕ} {i : ℕ} (a : Alike s t i) where
     alike_no e = turn ∙ rw (ne_eqb (get_or s i 0) (get_or t i 0) e)
 
     alike_more : get_or s i 0 ≡ get_or t i 0 → Alike s t (i + 1)
-    alike_more e = record { long = a.long; whole = rw (add_one i) (turn ∙ rw (eq-eqb (get_or s i 0) (get_or t i 0) e)) }
+    alike_more e = record { long = a.long; whole = rw (add-one i) (turn ∙ rw (eq-eqb (get_or s i 0) (get_or t i 0) e)) }
 
   alike_done : length t ≤ i → same s t ≡ true
   unfolding same

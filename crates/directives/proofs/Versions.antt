@@ -3,8 +3,8 @@ use Prim.Native.Nat.{◌*◌, ◌+◌, ◌-◌, ◌<◌, ◌^◌, ◌≤◌, suc
 use mathlib.Core.Bool.{false, true}
 use mathlib.Core.List.{List, [], ◌∷◌}
 use mathlib.Core.Path.{◌∙◌, ◌≡◌, ap, refl, sym}
-use native.Mathlib.Nat.{pow_le_pow_right, pow_suc}
-use native.Mathlib.Numerals.{add_one}
+use native.Mathlib.Nat.{pow-le-pow_right, pow-suc}
+use native.Mathlib.Numerals.{add-one}
 use native.Mathlib.Omega.{arith}
 use lib.Dec.{leb}
 use lib.ListN.{drop, get_or}
@@ -89,21 +89,21 @@ module _ {text : List ℕ} {start : Mark} {from p : Place} {v n : ℕ} (w : Coun
       pub counting_room : v * 10 + 9 < 2 ^ 32
       counting_room =
           let m : suc n ≤ 9 = omega (arith, w.few) in
-          let p = pow_le_pow_right {n = 10} (omega arith) m in
-          let q = pow_suc 10 n in
+          let p = pow-le-pow_right {n = 10} (omega arith) m in
+          let q = pow-suc 10 n in
           omega (arith, w.small)
 
       pub counting_more : Counting text start from (past p 1 (along p.mark)) (v * 10 + (c - 48)) (n + 1)
       counting_more =
-          let q = pow_suc 10 n in
+          let q = pow-suc 10 n in
           let d = digit_value c e in
           record {
             stands = stands_along w.stands 1 1 (omega arith) digit_char.within;
             onward = omega (arith, w.onward);
             few = omega (arith, w.few);
-            small = rw add_one (omega (arith, w.small));
+            small = rw add-one (omega (arith, w.small));
             whole = w.whole
-                ∙ rw (digit_char.next, add_one n) (digits_more start n v p.mark c (chars (drop (p.at + 1) text)) e (lt-ltb n 9 (omega (arith, w.few))));
+                ∙ rw (digit_char.next, add-one n) (digits_more start n v p.mark c (chars (drop (p.at + 1) text)) e (lt-ltb n 9 (omega (arith, w.few))));
           }
 
 module _ {text : List ℕ} {p : Place} {r : Numbered} {d : Read directive.Numbered} (h : Numbers text p r d) where

@@ -2,7 +2,7 @@
 use Prim.Native.Nat.{◌+◌, ◌<◌, suc, zero, ℕ}
 use mathlib.Core.List.{List, [], ◌++◌, ◌∷◌, append_assoc}
 use mathlib.Core.Path.{◌∙◌, ◌≡◌, ap, refl, sym}
-use native.Mathlib.Nat.{not_suc_le_zero}
+use native.Mathlib.Nat.{not-suc-le-zero}
 use native.Mathlib.Omega.{arith}
 use lib.Dec.{ltb}
 use lib.ListN.{length}
@@ -51,7 +51,7 @@ module _ (limits : Limits) (test : Test) where
   -- one more changes nothing
   driven_stable : (k : ℕ) (w : Pending) (s : State) (n : Counts) → left s.place < k → driven limits test (suc k) w s n ≡ driven limits test k w s n
   unfolding driven
-  driven_stable zero w s n h = absurd (not_suc_le_zero h)
+  driven_stable zero w s n h = absurd (not-suc-le-zero h)
   driven_stable (suc k) w s n h =
       on_news
       (λ r. after_news test w (length s.levels) n (λ v t m. driven limits test (suc k) v t m) r ≡ after_news test w (length s.levels) n (λ v t m. driven limits test k v t m) r)
@@ -60,7 +60,7 @@ module _ (limits : Limits) (test : Test) where
       (λ _ _. refl) (λ _ _. refl)
 
   pub driven_enough : (k : ℕ) (w : Pending) (s : State) (n : Counts) → left s.place < k → driven limits test k w s n ≡ driven limits test (suc (left s.place)) w s n
-  driven_enough zero w s n h = absurd (not_suc_le_zero h)
+  driven_enough zero w s n h = absurd (not-suc-le-zero h)
   driven_enough (suc k) w s n h =
       by_test (ltb (left s.place) k)
       (λ e. let i = ltb-true (left s.place) k e in driven_stable k w s n i ∙ driven_enough k w s n i)

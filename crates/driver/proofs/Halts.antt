@@ -3,7 +3,7 @@ use Prim.Native.Nat.{◌+◌, ◌-◌, ◌<◌, ◌≤◌, suc, zero, ℕ}
 use mathlib.Core.Bool.{Bool, false, true}
 use mathlib.Core.List.{List}
 use mathlib.Core.Path.{◌∙◌, ◌≡◌, ap, refl, sym}
-use native.Mathlib.Nat.{not_suc_le_zero}
+use native.Mathlib.Nat.{not-suc-le-zero}
 use native.Mathlib.Omega.{arith}
 use lib.Dec.{eqb, ltb}
 use lib.ListN.{set}
@@ -26,7 +26,7 @@ use Rattle.driver.specs.Held.{level_at, put_counts, put_pending, put_state, put_
 
 pub key_open : (e : List ℕ) (l d : ℕ) → l < d → level_key l (frame_keys e d) ≡ key_of e l
 unfolding frame_keys level_key
-key_open e l zero h = absurd (not_suc_le_zero h)
+key_open e l zero h = absurd (not-suc-le-zero h)
 key_open e l (suc d) h =
     by_test (eqb l d)
     (λ q. rw (keys_length e d, q, level_key) (ap (λ (k : ℕ). key_of e k) (sym (eqb-true l d q))))

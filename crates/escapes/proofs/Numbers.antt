@@ -3,8 +3,8 @@ use Prim.Native.Nat.{◌*◌, ◌+◌, ◌-◌, ◌<◌, ◌^◌, ◌≤◌, suc
 use mathlib.Core.Bool.{Bool, ◌||◌, false, not, true}
 use mathlib.Core.List.{List, ◌∷◌}
 use mathlib.Core.Path.{◌∙◌, ◌≡◌}
-use native.Mathlib.Nat.{pow_le_pow_right, pow_suc}
-use native.Mathlib.Numerals.{add_one}
+use native.Mathlib.Nat.{pow-le-pow_right, pow-suc}
+use native.Mathlib.Numerals.{add-one}
 use native.Mathlib.Omega.{arith}
 use lib.Dec.{T, ltb, ltb→lt}
 use lib.ListN.{drop, get_or}
@@ -61,8 +61,8 @@ module _ {text : List ℕ} {at n v i : ℕ} (w : Reading text at n v i) (h : i <
   pub reading_room : n ≤ 8 → v * 16 + 16 ≤ 2 ^ 32
   reading_room k =
       let m : suc i ≤ 8 = omega arith in
-      let p = pow_le_pow_right {n = 16} (omega arith) m in
-      let q = pow_suc 16 i in
+      let p = pow-le-pow_right {n = 16} (omega arith) m in
+      let q = pow-suc 16 i in
       omega (arith, w.small)
 
   left : n - i ≡ suc (n - (i + 1))
@@ -71,12 +71,12 @@ module _ {text : List ℕ} {at n v i : ℕ} (w : Reading text at n v i) (h : i <
   pub reading_more : {c r : ℕ} → c ≡ get_or text (at + i) 0 → is_hex c ≡ true → r ≡ as_hex c → Reading text at n (v * 16 + r) (i + 1)
   reading_more {c} e f g =
       let d = ascii_char text (at + i) c e hex_ascii f in
-      let q = pow_suc 16 i in
+      let q = pow-suc 16 i in
       let k = digit_value c f in
       let s : at + (i + 1) ≡ at + i + 1 = omega arith in
       record {
         few = omega arith;
-        small = rw add_one (omega (arith, w.small));
+        small = rw add-one (omega (arith, w.small));
         read = rw s (reach_then w.read (reach_one d));
         whole = λ start. w.whole start ∙ rw (left, d.next, s, g) (digit_more start (n - (i + 1)) v (c ∷ chars (drop (at + i + 1) text)) f);
       }

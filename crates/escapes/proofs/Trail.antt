@@ -3,7 +3,7 @@ use Prim.Native.Nat.{◌*◌, ◌+◌, ◌-◌, ◌<◌, ◌≤◌, suc, ℕ}
 use mathlib.Core.Bool.{false, true}
 use mathlib.Core.List.{List, [], ◌++◌, ◌∷◌, append_assoc, append-nil}
 use mathlib.Core.Path.{◌∙◌, ◌≡◌, ap, refl, sym}
-use native.Mathlib.Numerals.{add_one}
+use native.Mathlib.Numerals.{add-one}
 use native.Mathlib.Omega.{arith}
 use lib.ListN.{drop, length, length-set, set, take}
 use lib.Seq.{sets, take-length, take-suc-set}
@@ -89,9 +89,9 @@ module _ {text : List ℕ} {at : ℕ} {before out : List ℕ} {i : ℕ} (w : Tra
         few = omega arith;
         same = r ∙ w.same;
         read = rw (s, t) (reach_then w.read o.found.1);
-        whole = λ start. w.whole start ∙ rw (more start, behind_one, s, t, r, add_one, take-suc-set out i b h);
+        whole = λ start. w.whole start ∙ rw (more start, behind_one, s, t, r, add-one, take-suc-set out i b h);
         stored = w.stored
-            ∙ rw (left, tails_more (length out - (i + 1)) (chars (drop (at + 3 * i) text)) b (o.same origin) f, s, t, r, reach_rest o.found.1, add_one i);
+            ∙ rw (left, tails_more (length out - (i + 1)) (chars (drop (at + 3 * i) text)) b (o.same origin) f, s, t, r, reach_rest o.found.1, add-one i);
       }
 
   stops : {k : ℕ} → ((start : Mark) → trailing start (suc (length out - (i + 1))) (chars (drop (at + 3 * i) text)) ≡ refused k start)

@@ -2,7 +2,7 @@
 use Prim.Native.Nat.{◌+◌, ◌-◌, ◌<◌, ◌≤◌, suc, ℕ}
 use mathlib.Core.List.{List, [], ◌++◌, ◌∷◌}
 use mathlib.Core.Path.{◌≡◌, refl}
-use native.Mathlib.Numerals.{add_one}
+use native.Mathlib.Numerals.{add-one}
 use native.Mathlib.Omega.{arith}
 use lib.Dec.{eqb}
 use lib.ListN.{drop, drop_of_length-le, get_or, length, length-drop}
@@ -22,7 +22,7 @@ pub line_more : (between end : ℕ) (ns : List ℕ) (i b : ℕ) → i < length n
 unfolding numbers_line
 line_more between end ns i b h f =
     let e : length ns - i - 1 ≡ length (drop (suc i) ns) = (let d = length-drop (suc i) ns in omega arith) in
-    rw (add_one, f, e, drop-cons ns i 0, end_is between end (drop (suc i) ns))
+    rw (add-one, f, e, drop-cons ns i 0, end_is between end (drop (suc i) ns))
 
 pub line_ends : (between end : ℕ) (ns : List ℕ) (i : ℕ) → length ns ≤ i → numbers_line between end (drop i ns) ≡ []
 unfolding numbers_line

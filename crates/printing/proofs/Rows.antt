@@ -2,7 +2,7 @@
 use Prim.Native.Nat.{◌*◌, ◌+◌, ◌-◌, ◌<◌, ◌≤◌, suc, ℕ}
 use mathlib.Core.List.{List, [], ◌++◌, ◌∷◌}
 use mathlib.Core.Path.{◌∙◌, ◌≡◌, ap}
-use native.Mathlib.Nat.{add_zero}
+use native.Mathlib.Nat.{add-zero}
 use native.Mathlib.Omega.{arith}
 use lib.ListN.{drop, get_or, length, take}
 use lib.Seq.{drop-drop, get_or-drop, get_or-take}
@@ -28,7 +28,7 @@ listed_at l at =
       w 11 (omega arith),
       w 8 (omega arith),
       w 10 (omega arith),
-      add_zero,
+      add-zero,
     )
 
 -- one record more

@@ -3,7 +3,7 @@ use Prim.Native.Nat.{◌+◌, ◌<◌, ◌≤◌, ℕ}
 use mathlib.Core.Bool.{◌&&◌}
 use mathlib.Core.List.{List, [], ◌++◌, ◌∷◌}
 use mathlib.Core.Path.{◌∙◌, ◌≡◌, refl}
-use native.Mathlib.Numerals.{add_one}
+use native.Mathlib.Numerals.{add-one}
 use native.Mathlib.Omega.{arith}
 use lib.Dec.{eqb, ltb}
 use Rattle.yaml_text.specs.declared.Mark.{Mark}
@@ -61,9 +61,9 @@ module _ (text : List ℕ) (at next : ℕ) where
   unfolding broken mode_of break_mode
   break_is Chars = refl
   break_is (Blanks from) = refl
-  break_is (Folded n) = rw add_one
+  break_is (Folded n) = rw add-one
   break_is Escaped = refl
-  break_is (Joined n) = rw add_one
+  break_is (Joined n) = rw add-one
 
   pub break_kept : (mode : Mode) → BlanksKept text next (break_mode mode)
   unfolding break_mode

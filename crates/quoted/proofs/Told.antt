@@ -3,7 +3,7 @@ use Prim.Native.Nat.{◌*◌, ◌+◌, ◌≤◌, suc, zero, ℕ}
 use mathlib.Core.Bool.{Bool, ◌&&◌, ◌||◌, false, not, true}
 use mathlib.Core.List.{List}
 use mathlib.Core.Path.{◌≡◌, refl}
-use native.Mathlib.Numerals.{add_one}
+use native.Mathlib.Numerals.{add-one}
 use native.Mathlib.Omega.{arith}
 use lib.Dec.{T, ltb, ltb→lt}
 use mir.Facts.{and_yes}
@@ -74,7 +74,7 @@ module _ (start : Mark) where
   digits_told : (n : ℕ) (cs : List ℕ) (r : Read ℕ) → Low (peek cs 0) → HexTold n (drop 1 cs) r
       → Told cs (r >>= λ v. need (is_scalar 0 v) 39 start >>= λ _. got (record { char = v; took = n + 1 }))
   unfolding ◌>>=◌ need
-  digits_told n cs (got v) h k = by_test (is_scalar 0 v) (λ e. rw (e, add_one n) (omega arith, (h, k))) (λ e. rw e refl)
+  digits_told n cs (got v) h k = by_test (is_scalar 0 v) (λ e. rw (e, add-one n) (omega arith, (h, k))) (λ e. rw e refl)
   digits_told n cs (refused x m) h k = k
 
   told_by : (cs : List ℕ) (k : Named) → (known k ≡ true → Low (peek cs 0)) → Told cs (escape_of start k (drop 1 cs))

@@ -3,7 +3,7 @@ use Prim.Native.Nat.{◌+◌, ◌<◌, ◌≤◌, suc, ℕ}
 use mathlib.Core.Bool.{false, true}
 use mathlib.Core.List.{List, ◌∷◌}
 use mathlib.Core.Path.{◌∙◌, ◌≡◌, ap, sym}
-use native.Mathlib.Numerals.{add_one}
+use native.Mathlib.Numerals.{add-one}
 use native.Mathlib.Omega.{arith}
 use lib.ListN.{drop, drop_of_length-le, get_or, length}
 use lib.Seq.{drop-cons}
@@ -26,7 +26,7 @@ module _ (a b : List ℕ) (i : ℕ) (h : i < length a) (e : length a ≡ length 
   pub same_word : same a b ≡ same (drop i a) (drop i b) → get_or a i 0 ≡ get_or b i 0
       → same a b ≡ same (drop (i + 1) a) (drop (i + 1) b)
   unfolding same
-  same_word w n = w ∙ both_cons ∙ rw (eq-eqb (get_or a i 0) (get_or b i 0) n, add_one i)
+  same_word w n = w ∙ both_cons ∙ rw (eq-eqb (get_or a i 0) (get_or b i 0) n, add-one i)
 
 pub all_same : (a b : List ℕ) (i : ℕ) → length a ≤ i → length a ≡ length b → same a b ≡ same (drop i a) (drop i b) → true ≡ same a b
 unfolding same

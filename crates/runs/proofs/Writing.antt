@@ -3,7 +3,7 @@ use Prim.Native.Nat.{◌+◌, ◌<◌, ◌≤◌, suc, zero, ℕ}
 use mathlib.Core.Bool.{Bool, false, true}
 use mathlib.Core.List.{List, [], ◌∷◌}
 use mathlib.Core.Path.{◌∙◌, ◌≡◌, ap, refl, sym}
-use native.Mathlib.Numerals.{add_one}
+use native.Mathlib.Numerals.{add-one}
 use native.Mathlib.Omega.{arith}
 use lib.Dec.{eqb}
 use lib.ListN.{drop, get_or, length, length-set, set}
@@ -61,7 +61,7 @@ module _ (f : ℕ → Bool) (start : Mark) where
   escaped m c cs (got x) (holds h) =
       let i : m.index + 1 + x.took ≡ m.index + (x.took + 1) = omega arith in
       let j : m.col + 1 + x.took ≡ m.col + (x.took + 1) = omega arith in
-      rw (uri_skip x.took (along m) cs h.1, i, j, add_one x.took)
+      rw (uri_skip x.took (along m) cs h.1, i, j, add-one x.took)
   escaped m c cs (refused n k) h = refl
 
   -- no character of the class stands here

@@ -3,7 +3,7 @@ use Prim.Native.Nat.{◌*◌, ◌+◌, ◌-◌, ◌/◌, ◌<◌, ◌≤◌, ℕ
 use mathlib.Core.Bool.{false, true}
 use mathlib.Core.List.{List, ◌++◌}
 use mathlib.Core.Path.{◌∙◌, ◌≡◌, ap, refl, sym}
-use native.Mathlib.Nat.{zero_add}
+use native.Mathlib.Nat.{zero-add}
 use native.Mathlib.Omega.{arith}
 use lib.Dec.{ltb}
 use lib.ListN.{drop, length, length-append, length-drop, replicate}
@@ -116,13 +116,13 @@ module _ (limits : Limits) (text : List ℕ) {l b l' b' : List ℕ} {m : Counts}
 
   counted_tokens : tokens_counted m ≡ length ts
   counted_tokens =
-      w.stored.counts.tokens ∙ zero_add _ ∙ sym (outcome_total limits text w.said w.same)
+      w.stored.counts.tokens ∙ zero-add _ ∙ sym (outcome_total limits text w.said w.same)
 
   counted_bytes : m.used ≡ length (texts ts)
-  counted_bytes = w.stored.counts.used ∙ zero_add _ ∙ ap length (sym (outcome_texts limits text w.said w.same))
+  counted_bytes = w.stored.counts.used ∙ zero-add _ ∙ ap length (sym (outcome_texts limits text w.said w.same))
 
   counted_puts : m.count ≡ puts w.said
-  counted_puts = w.stored.counts.count ∙ zero_add _
+  counted_puts = w.stored.counts.count ∙ zero-add _
 
   pub settles : length l' ≡ length l → Settles m l'
   settles k =

@@ -3,7 +3,7 @@ use Prim.Native.Nat.{◌*◌, ◌+◌, ◌-◌, ◌<◌, ◌≤◌, ℕ}
 use mathlib.Core.Bool.{false, not, true}
 use mathlib.Core.List.{List, [], ◌∷◌}
 use mathlib.Core.Path.{◌∙◌, ◌≡◌, refl, sym}
-use native.Mathlib.Numerals.{add_one}
+use native.Mathlib.Numerals.{add-one}
 use native.Mathlib.Omega.{arith}
 use lib.Dec.{eqb, leb}
 use lib.ListN.{drop, drop_of_length-le, get_or, length}
@@ -54,7 +54,7 @@ module _ {s : List ℕ} {v i : ℕ} (w : Counting s v i) where
 
     more : is_digit (get_or s i 0) ≡ true → number_from 0 s ≡ number_from (v * 10 + (get_or s i 0 - '0')) (drop (i + 1) s)
     unfolding number_from all_digits value_from
-    more e = w.whole ∙ rw (drop-cons s i 0 h, e, add_one i)
+    more e = w.whole ∙ rw (drop-cons s i 0 h, e, add-one i)
 
     pub counting_more : is_digit (get_or s i 0) ≡ true → v * 10 + (get_or s i 0 - '0') ≤ most_seed → Counting s (v * 10 + (get_or s i 0 - '0')) (i + 1)
     counting_more e k = record { within = omega arith; small = k; whole = more e }

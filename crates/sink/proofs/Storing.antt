@@ -3,7 +3,7 @@ use Prim.Native.Nat.{◌+◌, ◌-◌, ◌<◌, ◌≤◌, suc, ℕ}
 use mathlib.Core.Bool.{Bool}
 use mathlib.Core.List.{List, [], ◌++◌, ◌∷◌}
 use mathlib.Core.Path.{◌∙◌, ◌≡◌, ap, refl, sym}
-use native.Mathlib.Numerals.{add_one}
+use native.Mathlib.Numerals.{add-one}
 use native.Mathlib.Omega.{arith}
 use lib.ListN.{length, length-replicate}
 use Rattle.yaml_text.specs.declared.Mark.{Mark}
@@ -33,7 +33,7 @@ pub ends_more : (l o : List ℕ) (m : Mark) (i j e : ℕ) → i < e → j ≡ i 
 unfolding put_list
 ends_more l o m i j e h p q =
     let s : e - i ≡ suc (e - (i + 1)) = omega arith in
-    rw (s, q, p, add_one i)
+    rw (s, q, p, add-one i)
 
 pub ends_none : (l : List ℕ) (m : Mark) (i e : ℕ) → e - i ≡ 0 → put_list l i (end_tokens (e - i) m) ≡ l
 unfolding put_list

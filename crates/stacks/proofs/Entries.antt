@@ -3,7 +3,7 @@ use Prim.Native.Nat.{◌%◌, ◌*◌, ◌+◌, ◌-◌, ◌/◌, ◌<◌, ◌�
 use mathlib.Core.Bool.{Bool, false, true}
 use mathlib.Core.List.{List, [], ◌∷◌}
 use mathlib.Core.Path.{◌∙◌, ◌≡◌, ap, refl}
-use native.Mathlib.Numerals.{add_one}
+use native.Mathlib.Numerals.{add-one}
 use native.Mathlib.Omega.{arith}
 use lib.ListN.{get_or, length, set}
 use lib.Seq.{get_or-set_other, get_or-set_same}
@@ -51,7 +51,7 @@ pub entries_push : (a : List ℕ) (d i : ℕ) (ends : Bool) → d < length a →
 unfolding entries_of
 entries_push a d i ends h g =
     let l : d ≤ d = omega arith in
-    rw (add_one d, get_or-set_same a d (word_of i ends) 0 h, entries_set a d d (word_of i ends) l, entry_word d i ends g)
+    rw (add-one d, get_or-set_same a d (word_of i ends) 0 h, entries_set a d d (word_of i ends) l, entry_word d i ends g)
 
 pub entries_pop : (a : List ℕ) (d : ℕ) → 0 < d → entries_of a d ≡ entry_of (d - 1) (get_or a (d - 1) 0) ∷ entries_of a (d - 1)
 unfolding entries_of

@@ -1,7 +1,7 @@
 -- A test that passes at every number below n, computed once, and what it says of each.
 use Prim.Native.Nat.{◌<◌, suc, zero, ℕ}
 use mathlib.Core.Bool.{Bool, ◌&&◌, false, true}
-use native.Mathlib.Nat.{le_of_suc_le_suc, not_suc_le_zero}
+use native.Mathlib.Nat.{le_of_suc-le-suc, not-suc-le-zero}
 use lib.Dec.{T}
 
 left : (a b : Bool) → T (a && b) → T a
@@ -17,6 +17,6 @@ all_below zero f = true
 all_below (suc n) f = f zero && all_below n (λ k. f (suc k))
 
 pub below : (n : ℕ) (f : ℕ → Bool) → T (all_below n f) → (k : ℕ) → k < n → T (f k)
-below zero f t k h = absurd (not_suc_le_zero h)
+below zero f t k h = absurd (not-suc-le-zero h)
 below (suc n) f t zero h = left (f zero) (all_below n (λ k. f (suc k))) t
-below (suc n) f t (suc k) h = below n (λ k. f (suc k)) (right (f zero) (all_below n (λ k. f (suc k))) t) k (le_of_suc_le_suc h)
+below (suc n) f t (suc k) h = below n (λ k. f (suc k)) (right (f zero) (all_below n (λ k. f (suc k))) t) k (le_of_suc-le-suc h)

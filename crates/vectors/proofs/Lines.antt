@@ -2,7 +2,7 @@
 use Prim.Native.Nat.{◌%◌, ◌*◌, ◌+◌, ◌-◌, ◌/◌, ◌<◌, ◌≤◌, suc, ℕ}
 use mathlib.Core.List.{List, [], ◌++◌, ◌∷◌}
 use mathlib.Core.Path.{◌∙◌, ◌≡◌, refl}
-use native.Mathlib.Numerals.{add_one}
+use native.Mathlib.Numerals.{add-one}
 use native.Mathlib.Omega.{arith}
 use lib.ListN.{drop, drop_of_length-le, get_or, length, length-take, set, take}
 use lib.Seq.{drop-cons, drop-drop}
@@ -18,7 +18,7 @@ byte_text b = hex_digit_ascii (b / 16) ∷ hex_digit_ascii (b % 16) ∷ []
 
 pub hex_more : (l : List ℕ) (i : ℕ) → i < length l → hex_text (drop i l) ≡ byte_text (get_or l i 0) ++ hex_text (drop (i + 1) l)
 unfolding hex_text
-hex_more l i h = rw (add_one, drop-cons l i 0 h)
+hex_more l i h = rw (add-one, drop-cons l i 0 h)
 
 pub hex_end : (l : List ℕ) (i : ℕ) → length l ≤ i → hex_text (drop i l) ≡ []
 unfolding hex_text
@@ -26,7 +26,7 @@ hex_end l i h = rw (drop_of_length-le l h)
 
 pub byte_written : (l m o : List ℕ) (at b x y : ℕ) → x ≡ hex_digit_ascii (b / 16) → m ≡ set l at x → y ≡ hex_digit_ascii (b % 16) → o ≡ set m (at + 1) y
     → Written l at (byte_text b) o (at + 2)
-byte_written l m o at b x y e p f q = record { stored = q ∙ rw (p, e, f, add_one); behind = refl }
+byte_written l m o at b x y e p f q = record { stored = q ∙ rw (p, e, f, add-one); behind = refl }
 
 -- one record more
 pub rows_more : (t n end : ℕ) (l : List ℕ) → n < t → end ≡ row_end (t - n - 1) → rows_text (t - n) (drop (n * record_words) l)

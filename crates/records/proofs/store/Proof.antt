@@ -1,7 +1,7 @@
 -- What is left to be stored gives the whole: one turn is one step of storing word by word.
 use Prim.Native.Nat.{◌+◌, ◌-◌}
 use mathlib.Core.Path.{◌∙◌, ◌≡◌, refl, sym}
-use native.Mathlib.Nat.{add_zero}
+use native.Mathlib.Nat.{add-zero}
 use lib.ListN.{drop, drop_of_length-le, length, length-set}
 use lib.Seq.{sets}
 use borrow.Author.Rules.{rules}
@@ -16,7 +16,7 @@ abbrev decreases-loop : tie.decreases-loop
 decreases-loop words₀ at r i₀ words i = length r - i
 
 loop-holds : tie.Need-loop-init invariant-loop decreases-loop
-loop-holds c = (refl, simp add_zero)
+loop-holds c = (refl, simp add-zero)
 
 mul_words : tie.Need-overflow-mul-words invariant-loop decreases-loop
 mul_words c = search rules

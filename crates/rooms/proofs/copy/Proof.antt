@@ -1,7 +1,7 @@
 -- The invariant: what is left of the text, stored behind what was copied, gives the whole.
 use Prim.Native.Nat.{◌+◌, ◌-◌}
 use mathlib.Core.Path.{◌∙◌, ◌≡◌, refl, sym}
-use native.Mathlib.Nat.{add_zero}
+use native.Mathlib.Nat.{add-zero}
 use native.Mathlib.Omega.{arith}
 use lib.ListN.{drop, length, length-set}
 use lib.Seq.{sets}
@@ -20,7 +20,7 @@ fitting-requires : tie.Need-fitting-requires invariant-loop decreases-loop
 fitting-requires c κs = search rules
 
 loop-holds : tie.Need-loop-init invariant-loop decreases-loop
-loop-holds c = (refl, simp add_zero)
+loop-holds c = (refl, simp add-zero)
 
 shared-slice-read-out : tie.Need-shared-slice-read-out invariant-loop decreases-loop
 shared-slice-read-out c = search rules
