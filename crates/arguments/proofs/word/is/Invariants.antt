@@ -1,0 +1,10 @@
+-- Both are as long, so that each place of one is a place of the other.
+use Prim.Native.Nat.{◌-◌}
+use lib.ListN.{length}
+use Rattle.arguments.proofs.word.is.Given as goal
+
+abbrev pub invariant-loop-i : goal.invariant-loop-i
+invariant-loop-i l = Unit {0}
+
+abbrev pub decreases-loop-i : goal.decreases-loop-i
+decreases-loop-i l = length l.s - l.i

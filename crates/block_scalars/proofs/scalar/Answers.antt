@@ -1,0 +1,5 @@
+-- It is put together from what its three calls answer.
+use Rattle.block_scalars.proofs.scalar.Goals as goal
+
+pub returns : goal.returns
+returns c = rw (c.got.ensures, c.text_at.ensures, c.block_style.ensures)

@@ -1,0 +1,31 @@
+-- The invariant: only spaces were passed.
+use Prim.Native.Nat.{◌-◌}
+use native.Mathlib.Omega.{arith}
+use lib.ListN.{length}
+use borrow.Author.Tests.{eq-eqb}
+use Rattle.yaml_text.specs.Char.{space}
+use Rattle.chars.specs.Blocks.{is_space}
+use Rattle.chars.specs.Each.{Each, each_none, each_one, each_then}
+use Rattle.gaps.specs.Spaces.{spaces_over, spaces_past, tries_each}
+use Rattle.gaps.proofs.past_spaces.Goals as goal
+
+pub loop-at-init : goal.loop-at-init
+loop-at-init c = each_none c.requires
+
+pub returns-then-text-at-ne32 : goal.returns-then-text-at-ne32
+returns-then-text-at-ne32 c = spaces_over c.loop-at.invariant c.loop-at-test.true c.if-text-at-ne32.true
+
+pub loop-at-smaller : goal.loop-at-smaller
+loop-at-smaller c =
+    let h = c.loop-at-test.true in
+    omega (arith, tries_each (omega (arith, h)) c.past_some_spaces-at.ensures, h)
+
+pub loop-at-preserved : goal.loop-at-preserved
+unfolding is_space
+loop-at-preserved c =
+    let h = c.loop-at-test.true in
+    let one = each_one h (eq-eqb _ space c.if-text-at-ne32.false) in
+    each_then c.loop-at.invariant (each_then one (tries_each (omega (arith, h)) c.past_some_spaces-at.ensures))
+
+pub returns : goal.returns
+returns c = spaces_past c.loop-at.invariant c.loop-at-test.false

@@ -1,0 +1,57 @@
+-- The line from here on is what is left of the line.
+use Prim.Native.Nat.{◌-◌, ◌≤◌, ℕ}
+use mathlib.Core.List.{List}
+use mathlib.Core.Path.{◌∙◌, sym}
+use native.Mathlib.Omega.{arith}
+use lib.ListN.{drop, length}
+use Rattle.yaml_text.specs.Mark.{Run}
+use Rattle.yaml_text.specs.Utf8.{chars}
+use Rattle.chars.specs.declared.mark.Place.{Place}
+use Rattle.chars.specs.Bytes.{CharAt, char_at, none_told}
+use Rattle.chars.specs.Places.{small}
+use Rattle.chars.specs.Reach.{reach_one}
+use Rattle.gaps.specs.Line.{line}
+use Rattle.gaps.specs.Span.{Spanning, spans_along, spans_done, spans_start}
+use Rattle.gaps.proofs.Laws.{end_done, line_done, line_turn, low_few, low_spans}
+use borrow.Author.Rules.{rules}
+use Rattle.gaps.proofs.run_to_break.Goals as goal
+
+-- the line from a place on
+abbrev line-from : List ℕ → Place → Run
+line-from text p = line p.mark (chars (drop p.at text))
+
+pub loop-code-init : goal.loop-code-init
+loop-code-init c = spans_start c.requires
+
+pub skip_n_non_blank-q-requires : goal.skip_n_non_blank-q-requires
+skip_n_non_blank-q-requires c = (small c.loop-code.invariant.walks.stands (search rules), low_few c.low_run.ensures c.loop-code.invariant.walks.stands)
+
+pub returns-in_default : goal.returns-in_default
+returns-in_default c =
+    let spanned : Spanning (c.args.text.now) c.args.start (c.skip_n_non_blank-q.result) (line-from (c.args.text.now) c.args.start) (line-from (c.args.text.now) (c.skip_n_non_blank-q.result)) = low_spans c.low_run.ensures c.loop-code.inv c.skip_n_non_blank-q.ensures in
+    spans_done (spanned) (end_done _ _ (none_told (c.args.text.now) (c.skip_n_non_blank-q.result).at c.char_at-d.ensures c.in_default.in_default-own.keys2))
+
+pub returns-then-is_break : goal.returns-then-is_break
+returns-then-is_break c =
+    let spanned : Spanning (c.args.text.now) c.args.start (c.skip_n_non_blank-q.result) (line-from (c.args.text.now) c.args.start) (line-from (c.args.text.now) (c.skip_n_non_blank-q.result)) = low_spans c.low_run.ensures c.loop-code.inv c.skip_n_non_blank-q.ensures in
+    let char : CharAt (c.args.text.now) (c.skip_n_non_blank-q.result).at c.in-Char.code c.in-Char.len = char_at (c.args.text.now) (c.skip_n_non_blank-q.result).at _ _ (sym c.char_at-d.ensures ∙ c.in-Char.is) in
+    spans_done (spanned) (line_done _ (char) (sym c.is_break.ensures ∙ c.if-is_break.true))
+
+pub skip_non_blank-p-requires : goal.skip_non_blank-p-requires
+skip_non_blank-p-requires c =
+    let spanned : Spanning (c.args.text.now) c.args.start (c.skip_n_non_blank-q.result) (line-from (c.args.text.now) c.args.start) (line-from (c.args.text.now) (c.skip_n_non_blank-q.result)) = low_spans c.low_run.ensures c.loop-code.inv c.skip_n_non_blank-q.ensures in
+    let char : CharAt (c.args.text.now) (c.skip_n_non_blank-q.result).at c.in-Char.code c.in-Char.len = char_at (c.args.text.now) (c.skip_n_non_blank-q.result).at _ _ (sym c.char_at-d.ensures ∙ c.in-Char.is) in
+    (small (spanned).walks.stands (search rules), (char).few)
+
+pub loop-code-smaller : goal.loop-code-smaller
+loop-code-smaller c =
+    let onward : c.loop-code.p.at ≤ (c.skip_n_non_blank-q.result).at = rw c.skip_n_non_blank-q.ensures (omega arith) in
+    let char : CharAt (c.args.text.now) (c.skip_n_non_blank-q.result).at c.in-Char.code c.in-Char.len = char_at (c.args.text.now) (c.skip_n_non_blank-q.result).at _ _ (sym c.char_at-d.ensures ∙ c.in-Char.is) in
+    rw c.skip_non_blank-p.ensures (omega (arith, char, onward))
+
+pub loop-code-preserved : goal.loop-code-preserved
+loop-code-preserved c =
+    let spanned : Spanning (c.args.text.now) c.args.start (c.skip_n_non_blank-q.result) (line-from (c.args.text.now) c.args.start) (line-from (c.args.text.now) (c.skip_n_non_blank-q.result)) = low_spans c.low_run.ensures c.loop-code.inv c.skip_n_non_blank-q.ensures in
+    let char : CharAt (c.args.text.now) (c.skip_n_non_blank-q.result).at c.in-Char.code c.in-Char.len = char_at (c.args.text.now) (c.skip_n_non_blank-q.result).at _ _ (sym c.char_at-d.ensures ∙ c.in-Char.is) in
+    rw c.skip_non_blank-p.ensures
+    (spans_along (spanned) _ 1 (reach_one (char)) (line_turn _ (char) (sym c.is_break.ensures ∙ c.if-is_break.false)))

@@ -1,0 +1,127 @@
+-- The gap from here on, behind what stands before it, is what is left of the gap.
+use Prim.Native.Nat.{◌-◌, ◌<◌, ◌≤◌, ℕ}
+use mathlib.Core.Bool.{true}
+use mathlib.Core.List.{List, [], ◌∷◌}
+use mathlib.Core.Path.{◌∙◌, ◌≡◌, refl, sym}
+use native.Mathlib.Omega.{arith}
+use lib.ListN.{length}
+use types.Run.{miss}
+use Rattle.yaml_text.specs.Char.{'#'}
+use Rattle.yaml_text.specs.Class.{is_blank, is_break}
+use Rattle.yaml_text.specs.Pick.{pick}
+use Rattle.yaml_lexeme.specs.declared.Before.TheVariants.{AfterText, Leading}
+use Rattle.chars.specs.declared.mark.Place.{Place}
+use Rattle.chars.specs.Ascii.{blank_ascii}
+use Rattle.chars.specs.Bytes.{CharAt, ascii_char, eq_char}
+use Rattle.chars.specs.Places.{small}
+use Rattle.chars.specs.View.{Stands, view}
+use Rattle.gaps.specs.Answers.{skips_from, skips_refused}
+use Rattle.gaps.specs.Breaks.{BreakAt, break_at}
+use Rattle.gaps.specs.Gap.{Open, gap_from}
+use Rattle.gaps.specs.Walk.{Walks, walks_move, walks_start}
+use Rattle.gaps.proofs.Laws.{blanks_some, gap_blanks, gap_comment, gap_line, gap_wrong, line_some, open_blank, open_start, other_at}
+use borrow.Author.Rules.{rules}
+use Rattle.gaps.proofs.skip_gap.Goals as goal
+
+pub loop-m-init : goal.loop-m-init
+loop-m-init c = rw c.before_of-b.ensures (walks_start c.requires, open_start c.args.leads)
+
+pub overflow_add-at : goal.overflow_add-at
+overflow_add-at c =
+    let blank : is_blank c.byte-c.result ≡ true = sym c.is_blank.ensures ∙ c.if-is_blank.true in
+    let blank-char : CharAt (c.args.text.now) (c.loop-m.p).at c.byte-c.result 1 = ascii_char _ _ _ c.byte-c.ensures blank_ascii (blank) in
+    let h = (blank-char).within in search rules
+
+pub past_spaces-requires : goal.past_spaces-requires
+past_spaces-requires c =
+    let blank : is_blank c.byte-c.result ≡ true = sym c.is_blank.ensures ∙ c.if-is_blank.true in
+    let blank-char : CharAt (c.args.text.now) (c.loop-m.p).at c.byte-c.result 1 = ascii_char _ _ _ c.byte-c.ensures blank_ascii (blank) in
+    (blank-char).within
+
+pub overflow_sub-past_spaces : goal.overflow_sub-past_spaces
+overflow_sub-past_spaces c =
+    let blank : is_blank c.byte-c.result ≡ true = sym c.is_blank.ensures ∙ c.if-is_blank.true in
+    let blank-char : CharAt (c.args.text.now) (c.loop-m.p).at c.byte-c.result 1 = ascii_char _ _ _ c.byte-c.ensures blank_ascii (blank) in
+    let some : ((c.loop-m.p).at < c.past_spaces.result) × (c.past_spaces.result ≤ length (c.args.text.now)) = blanks_some (c.loop-m.p) (blank-char) c.past_spaces.ensures in
+    omega (arith, some)
+
+pub overflow_cast-past_spaces : goal.overflow_cast-past_spaces
+overflow_cast-past_spaces c =
+    let stands : Stands (c.args.text.now) (c.loop-m.p) = c.loop-m.invariant.0.stands in
+    let blank : is_blank c.byte-c.result ≡ true = sym c.is_blank.ensures ∙ c.if-is_blank.true in
+    let blank-char : CharAt (c.args.text.now) (c.loop-m.p).at c.byte-c.result 1 = ascii_char _ _ _ c.byte-c.ensures blank_ascii (blank) in
+    let some : ((c.loop-m.p).at < c.past_spaces.result) × (c.past_spaces.result ≤ length (c.args.text.now)) = blanks_some (c.loop-m.p) (blank-char) c.past_spaces.ensures in
+    omega (arith, some, stands)
+
+pub skip_n_non_blank-p-requires : goal.skip_n_non_blank-p-requires
+skip_n_non_blank-p-requires c =
+    let stands : Stands (c.args.text.now) (c.loop-m.p) = c.loop-m.invariant.0.stands in
+    let blank : is_blank c.byte-c.result ≡ true = sym c.is_blank.ensures ∙ c.if-is_blank.true in
+    let blank-char : CharAt (c.args.text.now) (c.loop-m.p).at c.byte-c.result 1 = ascii_char _ _ _ c.byte-c.ensures blank_ascii (blank) in
+    let some : ((c.loop-m.p).at < c.past_spaces.result) × (c.past_spaces.result ≤ length (c.args.text.now)) = blanks_some (c.loop-m.p) (blank-char) c.past_spaces.ensures in
+    (small (stands) (search rules), omega (arith, some, stands))
+
+pub loop-m-smaller-then-is_blank : goal.loop-m-smaller-then-is_blank
+loop-m-smaller-then-is_blank c =
+    let blank : is_blank c.byte-c.result ≡ true = sym c.is_blank.ensures ∙ c.if-is_blank.true in
+    let blank-char : CharAt (c.args.text.now) (c.loop-m.p).at c.byte-c.result 1 = ascii_char _ _ _ c.byte-c.ensures blank_ascii (blank) in
+    let some : ((c.loop-m.p).at < c.past_spaces.result) × (c.past_spaces.result ≤ length (c.args.text.now)) = blanks_some (c.loop-m.p) (blank-char) c.past_spaces.ensures in
+    rw c.skip_n_non_blank-p.ensures (omega (arith, some))
+
+pub loop-m-preserved-then-is_blank : goal.loop-m-preserved-then-is_blank
+loop-m-preserved-then-is_blank c =
+    let blank : is_blank c.byte-c.result ≡ true = sym c.is_blank.ensures ∙ c.if-is_blank.true in
+    let blank-char : CharAt (c.args.text.now) (c.loop-m.p).at c.byte-c.result 1 = ascii_char _ _ _ c.byte-c.ensures blank_ascii (blank) in
+    let i = c.loop-m.invariant in
+    rw c.on_blank-b.ensures
+    (gap_blanks _ (blank-char) c.past_spaces.ensures _ _ _ (blank) i.0 c.skip_n_non_blank-p.ensures, open_blank _ _ _ _ i.1)
+
+pub skip_linebreak-p-requires : goal.skip_linebreak-p-requires
+skip_linebreak-p-requires c =
+    let break : BreakAt (c.args.text.now) (c.loop-m.p) c.break_length.result = break_at c.loop-m.invariant.0.stands c.byte-c.ensures
+    (sym c.is_break.ensures ∙ c.if-is_break.true) c.break_length.ensures in
+    (small c.loop-m.invariant.0.stands (search rules), (break).few)
+
+pub loop-m-smaller-then-is_break : goal.loop-m-smaller-then-is_break
+loop-m-smaller-then-is_break c =
+    let break : BreakAt (c.args.text.now) (c.loop-m.p) c.break_length.result = break_at c.loop-m.invariant.0.stands c.byte-c.ensures
+    (sym c.is_break.ensures ∙ c.if-is_break.true) c.break_length.ensures in
+    let x = break in rw c.skip_linebreak-p.ensures (omega (arith, x.some, x.moves.stands.within))
+
+pub loop-m-preserved-then-is_break : goal.loop-m-preserved-then-is_break
+loop-m-preserved-then-is_break c =
+    let break : BreakAt (c.args.text.now) (c.loop-m.p) c.break_length.result = break_at c.loop-m.invariant.0.stands c.byte-c.ensures
+    (sym c.is_break.ensures ∙ c.if-is_break.true) c.break_length.ensures in
+    let x = break in
+    rw c.skip_linebreak-p.ensures
+    (walks_move c.loop-m.invariant.0 x.moves (gap_line _ _ c.loop-m.b x), tt)
+
+pub gap_end-requires : goal.gap_end-requires
+gap_end-requires c =
+    let other = other_at (c.args.text.now) (c.loop-m.p).at _ c.byte-c.ensures (sym c.is_blank.ensures ∙ c.if-is_blank.false) (sym c.is_break.ensures ∙ c.if-is_break.false) c.if-c-ne35.true in
+    (c.loop-m.invariant.0.stands, other, c.loop-m.invariant.1)
+
+pub returns-then-c-ne35 : goal.returns-then-c-ne35
+returns-then-c-ne35 c = skips_from c.loop-m.invariant.0 (c.gap_end.ensures _)
+
+pub returns-in-AfterText : goal.returns-in-AfterText
+returns-in-AfterText c =
+    let hash-char : CharAt (c.args.text.now) (c.loop-m.p).at '#' 1 = eq_char _ _ _ c.byte-c.ensures '#' tt c.if-c-ne35.false in
+    skips_from c.loop-m.invariant.0
+    (skips_refused c.wrong.ensures (gap_wrong _ _ _ _ (hash-char) c.in-AfterText.is))
+
+pub to_break-p-requires : goal.to_break-p-requires
+to_break-p-requires c = c.loop-m.invariant.0.stands
+
+pub loop-m-smaller : goal.loop-m-smaller
+unfolding is_break
+loop-m-smaller c =
+    let hash-char : CharAt (c.args.text.now) (c.loop-m.p).at '#' 1 = eq_char _ _ _ c.byte-c.ensures '#' tt c.if-c-ne35.false in
+    let w = c.to_break-p.ensures in omega (arith, line_some (hash-char) refl w, w.stands.within)
+
+pub loop-m-preserved : goal.loop-m-preserved
+loop-m-preserved c =
+    let hash-char : CharAt (c.args.text.now) (c.loop-m.p).at '#' 1 = eq_char _ _ _ c.byte-c.ensures '#' tt c.if-c-ne35.false in
+    let not_after : c.loop-m.b ≡ AfterText → ⊥ = λ e. miss (0 ∷ 1 ∷ 2 ∷ 4 ∷ []) 3 tt (rw e at c.in_default.in_default-own.keys2) in
+    let w = c.to_break-p.ensures in
+    (walks_move c.loop-m.invariant.0 w (gap_comment _ _ _ (hash-char) (not_after) w), tt)

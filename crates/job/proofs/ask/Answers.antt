@@ -1,0 +1,10 @@
+-- What the answer of the stream comes to is what the definition's call comes to.
+use Rattle.job.specs.AsksLaws.{ask_told}
+use Rattle.job.proofs.ask.Goals as goal
+
+pub returns : goal.returns
+returns c =
+    let s = c.args in
+    let o = c.next_held-a in
+    ask_told s.text.now s.held.now s.words.now s.bytes.now o.new.0 o.new.1.1.0 o.new.1.1.1.0 o.new.1.1.1.1.0
+    s.place s.met s.count o.result c.by_answer.result o.auto.1.1.0 o.auto.1.1.1.0 o.ensures c.by_answer.ensures

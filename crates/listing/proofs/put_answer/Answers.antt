@@ -1,0 +1,20 @@
+-- An acceptance is a line with T and D and the lines of its records behind it; a refusal is one line.
+use native.Mathlib.Omega.{arith}
+use Rattle.listing.proofs.Answered.{accepted_fit, accepted_lines, refused_lines}
+use Rattle.listing.proofs.put_answer.Goals as goal
+
+pub put_records-requires : goal.put_records-requires
+put_records-requires c = (omega arith, accepted_fit _ _ _ _ c.in-Accepted.is c.requires)
+
+pub returns-in-Accepted : goal.returns-in-Accepted
+returns-in-Accepted c =
+    let e = c.in-Accepted.is in
+    let h = accepted_fit _ _ _ _ e c.requires in
+    let p = c.put_numbers-next.ensures in
+    let q = c.put_records.ensures in
+    (accepted_lines _ c.args.words.now e p.0 q.0, omega (arith, p.1, q.1))
+
+pub returns-in-Refused : goal.returns-in-Refused
+returns-in-Refused c =
+    let p = c.put_numbers.ensures in
+    (refused_lines _ c.args.words.now c.in-Refused.is p.0, omega (arith, p.1))

@@ -1,0 +1,16 @@
+use Prim.Native.Nat.{◌*◌, ◌+◌, ◌-◌, ◌<◌, ◌^◌, ◌≤◌}
+use native.Mathlib.Omega.{arith}
+use lib.ListN.{drop, get_or, length}
+use Rattle.printing.specs.Lines.{numbers_line}
+use Rattle.printing.specs.Written.{Writing, writing_ends, writing_more, writing_starts}
+use Rattle.printing.proofs.Line.{line_ends, line_more}
+use Rattle.printing.proofs.Number.{number_few}
+use Rattle.printing.proofs.put_numbers.Given as goal
+
+abbrev pub invariant-loop-i : goal.invariant-loop-i
+invariant-loop-i l =
+    (l.i ≤ length l.numbers) × (l.next ≤ l.at + 11 * l.i) ×
+    Writing l.initial.out l.at (numbers_line l.between l.end l.numbers) l.out l.next (numbers_line l.between l.end (drop l.i l.numbers))
+
+abbrev pub decreases-loop-i : goal.decreases-loop-i
+decreases-loop-i l = length l.numbers - l.i

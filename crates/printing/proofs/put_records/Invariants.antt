@@ -1,0 +1,18 @@
+use Prim.Native.Nat.{◌*◌, ◌+◌, ◌-◌, ◌≤◌}
+use mathlib.Core.Path.{sym}
+use native.Mathlib.Omega.{arith}
+use lib.ListN.{drop}
+use Rattle.yaml_lexeme.specs.Record.{record_words}
+use Rattle.printing.specs.Lines.{lines_text}
+use Rattle.printing.specs.Listing.{token_lines}
+use Rattle.printing.specs.Written.{Writing, writing_ends, writing_more, writing_starts}
+use Rattle.printing.proofs.Rows.{rows_end, rows_more, rows_start, ten}
+use Rattle.printing.proofs.put_records.Given as goal
+
+abbrev pub invariant-loop-n : goal.invariant-loop-n
+invariant-loop-n l =
+    (l.n ≤ l.t) × (l.next ≤ l.at + 110 * l.n) ×
+    Writing l.initial.out l.at (lines_text (token_lines l.t l.words)) l.out l.next (lines_text (token_lines (l.t - l.n) (drop (l.n * record_words) l.words)))
+
+abbrev pub decreases-loop-n : goal.decreases-loop-n
+decreases-loop-n l = l.t - l.n

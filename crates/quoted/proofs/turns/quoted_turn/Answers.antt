@@ -1,0 +1,28 @@
+-- The turn is told by the character at the place: none, a blank, a break, or text.
+use mathlib.Core.Path.{◌∙◌, sym}
+use Rattle.chars.specs.Bytes.{CharAt, char_at}
+use Rattle.quoted.proofs.Chosen.{blank_chosen, break_chosen, end_turns, owed_small}
+use Rattle.quoted.proofs.Spanned.{no_chars}
+use borrow.Author.Rules.{rules}
+use Rattle.quoted.proofs.turns.quoted_turn.Goals as goal
+
+pub returns-in_default : goal.returns-in_default
+returns-in_default c = end_turns (no_chars c.args.text.now c.args.t.place.at _ c.char_at-d.ensures c.in_default.in_default-own.keys2) c.wrong.ensures.0 c.wrong.ensures.1
+
+pub returns-then-is_blank : goal.returns-then-is_blank
+returns-then-is_blank c =
+    let char : CharAt c.args.text.now c.args.t.place.at c.in-Char.code c.in-Char.len = char_at _ _ _ _ (sym c.char_at-d.ensures ∙ c.in-Char.is) in
+    blank_chosen c.requires (char) (sym c.is_blank.ensures ∙ c.if-is_blank.true) c.on_blank.ensures
+
+pub on_break-requires : goal.on_break-requires
+on_break-requires c = (search rules, owed_small c.requires)
+
+pub returns-then-is_break : goal.returns-then-is_break
+returns-then-is_break c =
+    let char : CharAt c.args.text.now c.args.t.place.at c.in-Char.code c.in-Char.len = char_at _ _ _ _ (sym c.char_at-d.ensures ∙ c.in-Char.is) in
+    break_chosen _ c.requires (char) (sym c.is_break.ensures ∙ c.if-is_break.true) c.on_break.ensures
+
+pub on_text-requires : goal.on_text-requires
+on_text-requires c =
+    let char : CharAt c.args.text.now c.args.t.place.at c.in-Char.code c.in-Char.len = char_at _ _ _ _ (sym c.char_at-d.ensures ∙ c.in-Char.is) in
+    (c.requires, record { char = _; len = _; is = char; no_blank = sym c.is_blank.ensures ∙ c.if-is_blank.false; no_break = sym c.is_break.ensures ∙ c.if-is_break.false })

@@ -1,0 +1,9 @@
+use Prim.Native.Nat.{◌-◌}
+use Rattle.reading.proofs.Laws.{Breaking, breaks_done, breaks_more, breaks_start}
+use Rattle.reading.proofs.put_breaks.Given as goal
+
+abbrev pub invariant-loop-i : goal.invariant-loop-i
+invariant-loop-i l = Breaking l.initial.out l.n l.k l.out l.i l.e
+
+abbrev pub decreases-loop-i : goal.decreases-loop-i
+decreases-loop-i l = l.k - l.i

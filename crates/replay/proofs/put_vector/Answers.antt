@@ -1,0 +1,28 @@
+-- The entry's answer is the definition's, so what is written behind the text is the definition's answer; its length follows from what fits in the rooms.
+use native.Mathlib.Omega.{arith}
+use Rattle.replay.proofs.Answered.{accepted_fits, accepted_line, refused_line}
+use Rattle.replay.proofs.put_vector.Goals as goal
+
+pub put_accepted-requires : goal.put_accepted-requires
+put_accepted-requires c =
+    let r = c.scan-a in
+    let h = accepted_fits _ c.args.text.now _ _ _ _ _ _ r.ensures c.in-Accepted.is in
+    omega (arith, h, r.auto.1.0, r.auto.1.1.0, c.put_head-n.ensures.value, c.requires)
+
+pub returns-in-Accepted : goal.returns-in-Accepted
+returns-in-Accepted c =
+    let a = c.args in
+    let s = c.scan-a in
+    let e = c.in-Accepted.is in
+    let h = c.put_head-n.ensures in
+    let p = c.put_accepted.ensures in
+    (accepted_line _ a.text.now _ _ _ _ s.ensures e h.0 p.0, omega (arith, accepted_fits _ a.text.now _ _ _ _ _ _ s.ensures e, h.1, p.1))
+
+pub returns-in-Refused : goal.returns-in-Refused
+returns-in-Refused c =
+    let a = c.args in
+    let s = c.scan-a in
+    let e = c.in-Refused.is in
+    let h = c.put_head-n.ensures in
+    let p = c.put_refused.ensures in
+    (refused_line _ a.text.now _ _ _ _ s.ensures e h.0 p.0, omega (arith, h.1, p.1))

@@ -1,0 +1,15 @@
+-- The invariant: clearing from here on gives what clearing the whole gives.
+use Prim.Native.Nat.{◌-◌}
+use mathlib.Core.Path.{refl}
+use lib.ListN.{length}
+use Rattle.rooms.specs.Room.{Clearing, cleared_done, cleared_more}
+use Rattle.rooms.proofs.clear_from.Goals as goal
+
+pub loop-i-init : goal.loop-i-init
+loop-i-init c = record { same = refl; whole = refl }
+
+pub loop-i-preserved : goal.loop-i-preserved
+loop-i-preserved c = cleared_more c.loop-i.invariant c.loop-i-test.true
+
+pub returns : goal.returns
+returns c = cleared_done c.loop-i.invariant c.loop-i-test.false

@@ -1,0 +1,14 @@
+-- Where the test fails there is no token to store.
+use Rattle.events.specs.Event.{opening_if}
+use Rattle.sink.specs.StepTokens.{opening_tokens}
+use Rattle.sink.proofs.Storing.{opening_none}
+use Rattle.sink.proofs.put_led.Goals as goal
+
+pub returns-then-led : goal.returns-then-led
+returns-then-led c = rw c.if-led.true c.put_opening.ensures
+
+pub returns : goal.returns
+unfolding opening_tokens
+returns c =
+    let a = c.args in
+    opening_none (opening_if a.led a.o) a.m a.words.now a.n (rw c.if-led.false)

@@ -1,0 +1,26 @@
+-- What the steps come to is told, and held.
+use mathlib.Core.Path.{refl}
+use Rattle.driver.specs.declared.Outcome.TheVariants.{Ready, Scanned, Stopped}
+use Rattle.stream.proofs.Called.{scan_told}
+use Rattle.stream.proofs.scan_on.Goals as goal
+
+pub returns-in-Stopped : goal.returns-in-Stopped
+returns-in-Stopped c =
+    let s = c.args in
+    let t = c.to_front in
+    let d = c.all_steps-o in
+    scan_told s.limits s.text.now s.held.now s.words.now s.bytes.now t.new.0 t.new.1.0 d.new.1.1.1.0 c.hold_refusal.new.held d.new.1.1.1.1.0 d.new.1.1.1.1.1.0 d.result (Stopped c.in-Stopped.f) t.ensures d.ensures c.in-Stopped.is d.auto.1.1.1.1.0 d.auto.1.1.1.1.1.0 c.hold_refusal.ensures
+
+pub returns-in-Scanned : goal.returns-in-Scanned
+returns-in-Scanned c =
+    let s = c.args in
+    let t = c.to_front in
+    let d = c.all_steps-o in
+    scan_told s.limits s.text.now s.held.now s.words.now s.bytes.now t.new.0 t.new.1.0 d.new.1.1.1.0 c.close.new.held d.new.1.1.1.1.0 d.new.1.1.1.1.1.0 d.result (Scanned c.in-Scanned.m) t.ensures d.ensures c.in-Scanned.is d.auto.1.1.1.1.0 d.auto.1.1.1.1.1.0 c.close.ensures
+
+pub returns-in-Ready : goal.returns-in-Ready
+returns-in-Ready c =
+    let s = c.args in
+    let t = c.to_front in
+    let d = c.all_steps-o in
+    scan_told s.limits s.text.now s.held.now s.words.now s.bytes.now t.new.0 t.new.1.0 d.new.1.1.1.0 d.new.1.1.1.0 d.new.1.1.1.1.0 d.new.1.1.1.1.1.0 d.result Ready t.ensures d.ensures c.in-Ready.is d.auto.1.1.1.1.0 d.auto.1.1.1.1.1.0 refl

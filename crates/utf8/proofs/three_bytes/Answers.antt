@@ -1,0 +1,29 @@
+-- Each way out says what the tests of `three` came to.
+use mathlib.Core.Bool.{true}
+use mathlib.Core.Path.{◌∙◌, ◌≡◌, sym}
+use Rattle.yaml_text.specs.Utf8.{is_tail, three}
+use Rattle.utf8.proofs.three_bytes.Goals as goal
+
+pub returns-then-is_scalar : goal.returns-then-is_scalar
+unfolding three
+returns-then-is_scalar c =
+    let tail-b : is_tail c.args.b ≡ true = sym c.is_tail.ensures ∙ c.if-is_tail.true in
+    let tail-c : is_tail c.args.c ≡ true = sym c.is_tail-then-is_tail.ensures ∙ c.if-is_tail-2.true in
+    simp (tail-b, tail-c, sym c.is_scalar.ensures ∙ c.if-is_scalar.true)
+
+pub returns-else-is_scalar : goal.returns-else-is_scalar
+unfolding three
+returns-else-is_scalar c =
+    let tail-b : is_tail c.args.b ≡ true = sym c.is_tail.ensures ∙ c.if-is_tail.true in
+    let tail-c : is_tail c.args.c ≡ true = sym c.is_tail-then-is_tail.ensures ∙ c.if-is_tail-2.true in
+    simp (tail-b, tail-c, sym c.is_scalar.ensures ∙ c.if-is_scalar.false)
+
+pub returns-else-is_tail-2 : goal.returns-else-is_tail-2
+unfolding three
+returns-else-is_tail-2 c =
+    let tail-b : is_tail c.args.b ≡ true = sym c.is_tail.ensures ∙ c.if-is_tail.true in
+    simp (tail-b, sym c.is_tail-then-is_tail.ensures ∙ c.if-is_tail-2.false)
+
+pub returns-else-is_tail : goal.returns-else-is_tail
+unfolding three
+returns-else-is_tail c = simp (sym c.is_tail.ensures ∙ c.if-is_tail.false)

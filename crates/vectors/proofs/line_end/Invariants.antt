@@ -1,0 +1,12 @@
+use Prim.Native.Nat.{◌+◌, ◌-◌}
+use mathlib.Core.Path.{◌≡◌, refl}
+use native.Mathlib.Omega.{arith}
+use lib.ListN.{drop, length}
+use Rattle.vectors.specs.Line.{line_ends, line_length, line_more, line_past}
+use Rattle.vectors.proofs.line_end.Given as goal
+
+abbrev pub invariant-loop-i : goal.invariant-loop-i
+invariant-loop-i l = l.at + line_length (drop l.at l.s) ≡ l.i + line_length (drop l.i l.s)
+
+abbrev pub decreases-loop-i : goal.decreases-loop-i
+decreases-loop-i l = length l.s - l.i

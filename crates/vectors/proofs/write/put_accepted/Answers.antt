@@ -1,0 +1,14 @@
+-- Five texts stored one behind another are one text.
+use native.Mathlib.Omega.{arith}
+use Rattle.vectors.proofs.Lines.{accepted_written, first_part}
+use Rattle.vectors.proofs.write.put_accepted.Goals as goal
+
+pub returns : goal.returns
+returns c =
+    let a = c.args in
+    let p = c.put_text-a.ensures in
+    let q = c.put_numbers-b.ensures in
+    let r = c.put_rows-c.ensures in
+    let s = c.put_hex-e.ensures in
+    let u = c.put_text.ensures in
+    (accepted_written a.words.now a.bytes.now a.t a.d (first_part a.d a.bytes.now) p q.0 r.0 s.0 u, omega (arith, p.behind, q.1, r.1, s.1, u.behind))

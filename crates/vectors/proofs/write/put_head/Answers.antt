@@ -1,0 +1,10 @@
+-- Two texts stored one behind another are one text.
+use native.Mathlib.Omega.{arith}
+use Rattle.vectors.proofs.Lines.{head_written}
+use Rattle.vectors.proofs.write.put_head.Goals as goal
+
+pub returns : goal.returns
+returns c =
+    let p = c.put_hex-n.ensures in
+    let q = c.put_text.ensures in
+    (head_written _ _ _ c.args.text.now _ _ p.0 q, omega (arith, p.1, q.behind))

@@ -1,0 +1,10 @@
+-- Two texts stored one behind another are one text.
+use native.Mathlib.Omega.{arith}
+use Rattle.vectors.proofs.Lines.{refused_written}
+use Rattle.vectors.proofs.write.put_refused.Goals as goal
+
+pub returns : goal.returns
+returns c =
+    let p = c.put_text-n.ensures in
+    let q = c.put_numbers.ensures in
+    (refused_written _ _ _ _ _ _ _ p q.0, omega (arith, p.behind, q.1))

@@ -1,0 +1,15 @@
+use Prim.Native.Nat.{◌*◌, ◌+◌, ◌-◌, ◌≤◌}
+use mathlib.Core.Path.{◌≡◌}
+use native.Mathlib.Omega.{arith}
+use lib.ListN.{drop}
+use Rattle.yaml_lexeme.specs.Record.{record_words}
+use Rattle.printing.specs.Written.{Writing, writing_ends, writing_more, writing_starts}
+use Rattle.vectors.specs.Vector.{rows_text}
+use Rattle.vectors.proofs.Lines.{row_few, rows_end, rows_more, rows_start}
+use Rattle.vectors.proofs.write.put_rows.Given as goal
+
+abbrev pub invariant-loop-n : goal.invariant-loop-n
+invariant-loop-n l = (l.n ≤ l.t) × (l.next ≤ l.at + 132 * l.n) × Writing l.initial.out l.at (rows_text l.t l.words) l.out l.next (rows_text (l.t - l.n) (drop (l.n * record_words) l.words))
+
+abbrev pub decreases-loop-n : goal.decreases-loop-n
+decreases-loop-n l = l.t - l.n
