@@ -28,18 +28,18 @@ skip_n_non_blank-q-requires c = (small c.loop-code.invariant.walks.stands (searc
 
 pub returns-in_default : goal.returns-in_default
 returns-in_default c =
-    let spanned : Spanning (c.args.text.now) c.args.start (c.skip_n_non_blank-q.result) (line-from (c.args.text.now) c.args.start) (line-from (c.args.text.now) (c.skip_n_non_blank-q.result)) = low_spans c.low_run.ensures c.loop-code.inv c.skip_n_non_blank-q.ensures in
+    let spanned : Spanning (c.args.text.now) c.args.start (c.skip_n_non_blank-q.result) (line-from (c.args.text.now) c.args.start) (line-from (c.args.text.now) (c.skip_n_non_blank-q.result)) = low_spans c.low_run.ensures c.loop-code.invariant c.skip_n_non_blank-q.ensures in
     spans_done (spanned) (end_done _ _ (none_told (c.args.text.now) (c.skip_n_non_blank-q.result).at c.char_at-d.ensures c.in_default.in_default-own.keys2))
 
 pub returns-then-is_break : goal.returns-then-is_break
 returns-then-is_break c =
-    let spanned : Spanning (c.args.text.now) c.args.start (c.skip_n_non_blank-q.result) (line-from (c.args.text.now) c.args.start) (line-from (c.args.text.now) (c.skip_n_non_blank-q.result)) = low_spans c.low_run.ensures c.loop-code.inv c.skip_n_non_blank-q.ensures in
+    let spanned : Spanning (c.args.text.now) c.args.start (c.skip_n_non_blank-q.result) (line-from (c.args.text.now) c.args.start) (line-from (c.args.text.now) (c.skip_n_non_blank-q.result)) = low_spans c.low_run.ensures c.loop-code.invariant c.skip_n_non_blank-q.ensures in
     let char : CharAt (c.args.text.now) (c.skip_n_non_blank-q.result).at c.in-Char.code c.in-Char.len = char_at (c.args.text.now) (c.skip_n_non_blank-q.result).at _ _ (sym c.char_at-d.ensures ∙ c.in-Char.is) in
     spans_done (spanned) (line_done _ (char) (sym c.is_break.ensures ∙ c.if-is_break.true))
 
 pub skip_non_blank-p-requires : goal.skip_non_blank-p-requires
 skip_non_blank-p-requires c =
-    let spanned : Spanning (c.args.text.now) c.args.start (c.skip_n_non_blank-q.result) (line-from (c.args.text.now) c.args.start) (line-from (c.args.text.now) (c.skip_n_non_blank-q.result)) = low_spans c.low_run.ensures c.loop-code.inv c.skip_n_non_blank-q.ensures in
+    let spanned : Spanning (c.args.text.now) c.args.start (c.skip_n_non_blank-q.result) (line-from (c.args.text.now) c.args.start) (line-from (c.args.text.now) (c.skip_n_non_blank-q.result)) = low_spans c.low_run.ensures c.loop-code.invariant c.skip_n_non_blank-q.ensures in
     let char : CharAt (c.args.text.now) (c.skip_n_non_blank-q.result).at c.in-Char.code c.in-Char.len = char_at (c.args.text.now) (c.skip_n_non_blank-q.result).at _ _ (sym c.char_at-d.ensures ∙ c.in-Char.is) in
     (small (spanned).walks.stands (search rules), (char).few)
 
@@ -51,7 +51,7 @@ loop-code-smaller c =
 
 pub loop-code-preserved : goal.loop-code-preserved
 loop-code-preserved c =
-    let spanned : Spanning (c.args.text.now) c.args.start (c.skip_n_non_blank-q.result) (line-from (c.args.text.now) c.args.start) (line-from (c.args.text.now) (c.skip_n_non_blank-q.result)) = low_spans c.low_run.ensures c.loop-code.inv c.skip_n_non_blank-q.ensures in
+    let spanned : Spanning (c.args.text.now) c.args.start (c.skip_n_non_blank-q.result) (line-from (c.args.text.now) c.args.start) (line-from (c.args.text.now) (c.skip_n_non_blank-q.result)) = low_spans c.low_run.ensures c.loop-code.invariant c.skip_n_non_blank-q.ensures in
     let char : CharAt (c.args.text.now) (c.skip_n_non_blank-q.result).at c.in-Char.code c.in-Char.len = char_at (c.args.text.now) (c.skip_n_non_blank-q.result).at _ _ (sym c.char_at-d.ensures ∙ c.in-Char.is) in
     rw c.skip_non_blank-p.ensures
     (spans_along (spanned) _ 1 (reach_one (char)) (line_turn _ (char) (sym c.is_break.ensures ∙ c.if-is_break.false)))

@@ -20,7 +20,7 @@ returns-in_default c = passing_end c.loop-code.invariant c.char_at-d.ensures c.i
 pub skip_non_blank-p-requires : goal.skip_non_blank-p-requires
 skip_non_blank-p-requires c =
     let char : CharAt (c.args.text.now) c.loop-code.p.at c.in-Char.code c.in-Char.len = char_at (c.args.text.now) c.loop-code.p.at _ _ (sym c.char_at-d.ensures ∙ c.in-Char.is) in
-    (small c.loop-code.inv.stands (search rules), (char).few)
+    (small c.loop-code.invariant.stands (search rules), (char).few)
 
 pub loop-code-smaller : goal.loop-code-smaller
 loop-code-smaller c =
@@ -31,9 +31,9 @@ pub loop-code-preserved : goal.loop-code-preserved
 loop-code-preserved c =
     let char : CharAt (c.args.text.now) c.loop-code.p.at c.in-Char.code c.in-Char.len = char_at (c.args.text.now) c.loop-code.p.at _ _ (sym c.char_at-d.ensures ∙ c.in-Char.is) in
     rw c.skip_non_blank-p.ensures
-    (passing_more c.loop-code.inv (char) (sym c.is_of.ensures ∙ c.if-is_of.true))
+    (passing_more c.loop-code.invariant (char) (sym c.is_of.ensures ∙ c.if-is_of.true))
 
 pub returns-else-is_of : goal.returns-else-is_of
 returns-else-is_of c =
     let char : CharAt (c.args.text.now) c.loop-code.p.at c.in-Char.code c.in-Char.len = char_at (c.args.text.now) c.loop-code.p.at _ _ (sym c.char_at-d.ensures ∙ c.in-Char.is) in
-    passing_stop c.loop-code.inv (char) (sym c.is_of.ensures ∙ c.if-is_of.false)
+    passing_stop c.loop-code.invariant (char) (sym c.is_of.ensures ∙ c.if-is_of.false)

@@ -16,7 +16,7 @@ pub loop-p-init : goal.loop-p-init
 loop-p-init c = rw c.start-p.ensures (near_start _ c.requires)
 
 pub skip_linebreak-p-requires : goal.skip_linebreak-p-requires
-skip_linebreak-p-requires c = (small c.loop-p.inv.stands (search rules), rw c.break_length-n.ensures (break_few _))
+skip_linebreak-p-requires c = (small c.loop-p.invariant.stands (search rules), rw c.break_length-n.ensures (break_few _))
 
 pub loop-p-smaller-then-n-ne0 : goal.loop-p-smaller-then-n-ne0
 loop-p-smaller-then-n-ne0 c = let z = c.if-n-ne0.true in rw c.skip_linebreak-p.ensures (omega (arith, c.loop-p-test.true))
@@ -28,17 +28,17 @@ pub returns-in_default : goal.returns-in_default
 returns-in_default c =
     c.refused.ensures
     ∙ turn_none c.loop-p.p.mark (drop c.loop-p.p.at (c.args.s.now)) c.char_at-d.result (some_left (c.args.s.now) c.loop-p.p.at c.loop-p-test.true) c.char_at-d.ensures c.in_default.in_default-own.keys2
-    ∙ c.loop-p.inv.same
+    ∙ c.loop-p.invariant.same
 
 pub returns-then-code-eq0 : goal.returns-then-code-eq0
 returns-then-code-eq0 c =
     let char : CharAt (c.args.s.now) c.loop-p.p.at c.in-Char.code c.in-Char.len = char_at _ _ _ _ (sym c.char_at-d.ensures ∙ c.in-Char.is) in
-    c.refused-then-code-eq0.ensures ∙ turn_nul c.loop-p.p.mark _ _ _ (char).is c.if-code-eq0.true ∙ c.loop-p.inv.same
+    c.refused-then-code-eq0.ensures ∙ turn_nul c.loop-p.p.mark _ _ _ (char).is c.if-code-eq0.true ∙ c.loop-p.invariant.same
 
 pub skip_non_blank-p-requires : goal.skip_non_blank-p-requires
 skip_non_blank-p-requires c =
     let char : CharAt (c.args.s.now) c.loop-p.p.at c.in-Char.code c.in-Char.len = char_at _ _ _ _ (sym c.char_at-d.ensures ∙ c.in-Char.is) in
-    (small c.loop-p.inv.stands (search rules), (char).few)
+    (small c.loop-p.invariant.stands (search rules), (char).few)
 
 pub loop-p-smaller : goal.loop-p-smaller
 loop-p-smaller c =

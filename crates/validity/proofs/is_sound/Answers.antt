@@ -21,7 +21,7 @@ pub returns-then-i-e : goal.returns-then-i-e
 returns-then-i-e c =
     let slow : Went (c.args.s.now) c.loop-at.at c.block_end-e.result c.go_slow-i.result = went (omega (arith, c.block_end-e.ensures)) c.block_end-e.ensures.2 c.go_slow-i.ensures in
     let w = slow in
-    sym (c.loop-at.inv.1 ∙ w.same ∙ w.short c.if-i-e.true)
+    sym (c.loop-at.invariant.1 ∙ w.same ∙ w.short c.if-i-e.true)
 
 pub loop-at-smaller : goal.loop-at-smaller
 loop-at-smaller c =
@@ -32,7 +32,7 @@ pub loop-at-preserved : goal.loop-at-preserved
 loop-at-preserved c =
     let slow : Went (c.args.s.now) c.loop-at.at c.block_end-e.result c.go_slow-i.result = went (omega (arith, c.block_end-e.ensures)) c.block_end-e.ensures.2 c.go_slow-i.ensures in
     let w = slow in
-    (w.within, c.loop-at.inv.1 ∙ w.same)
+    (w.within, c.loop-at.invariant.1 ∙ w.same)
 
 pub returns : goal.returns
 returns c = sym (c.loop-at.invariant.1 ∙ sound_past (c.args.s.now) c.loop-at.at c.loop-at-test.false)
