@@ -46,6 +46,11 @@ none_end s at e = chars_end (drop at s) e
 abbrev pub NoChar : Decoded → Type 0
 NoChar d = (tag_of the_type d ≡ 1) ⊎ (tag_of the_type d ≡ 2)
 
+pub not_char : (d : Decoded) → ((c n : ℕ) → d ≡ Char c n → ⊥) → NoChar d
+not_char (Char c n) h = absurd (h c n refl)
+not_char Ill h = inl refl
+not_char End h = inr refl
+
 pub none_told : (s : List ℕ) (at : ℕ) {d : Decoded} → d ≡ first (drop at s) → NoChar d → chars (drop at s) ≡ []
 none_told s at {d = Char c n} e (inl k) = absurd (omega arith)
 none_told s at {d = Char c n} e (inr k) = absurd (omega arith)

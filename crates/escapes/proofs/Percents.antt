@@ -1,17 +1,14 @@
 -- Percent escapes, by what their first octet leads.
 use Prim.Native.Nat.{◌*◌, ◌+◌, ◌-◌, ◌<◌, ◌≤◌, ℕ}
 use mathlib.Core.List.{List, [], ◌++◌, ◌∷◌}
-use mathlib.Core.Logic.{◌⊎◌, inl, inr}
 use mathlib.Core.Path.{◌∙◌, ◌≡◌, refl}
 use native.Mathlib.Omega.{arith}
 use lib.Dec.{ltb, ltb→lt}
 use lib.ListN.{drop, length, take}
 use lib.Seq.{length-take-le, take_at}
-use denote.Enum.Declared.{tag_of}
 use borrow.Author.Tests.{lt-ltb}
 use Rattle.yaml_text.specs.declared.Decoded.{Decoded}
 use Rattle.yaml_text.specs.declared.Decoded.TheVariants.{Char, End, Ill}
-use Rattle.yaml_text.specs.contracts.Decoded.{the_type}
 use Rattle.yaml_text.specs.declared.Mark.{Mark}
 use Rattle.yaml_text.specs.Refusal.{◌>>=◌, got, need, refused}
 use Rattle.yaml_text.specs.Utf8.{chars, first, len_of}
@@ -19,6 +16,7 @@ use Rattle.yaml_lexeme.specs.Tag.{code_point, percent, trailing}
 use Rattle.utf8.proofs.Below.{below}
 use Rattle.chars.specs.Reach.{reach_rest, reach_within}
 use Rattle.escapes.specs.declared.hex.Hex.TheVariants.{Missing, Value}
+use Rattle.escapes.specs.declared.percent.Octets.{Octets}
 use Rattle.escapes.specs.declared.percent.Octets.TheVariants.{All, Refused}
 use Rattle.escapes.specs.Parts.{OctetAt, TrailingAt}
 
@@ -44,10 +42,9 @@ module _ {text : List ℕ} {at a n : ℕ} (h : Lead text at a n) (w : at ≤ len
   pub percent_within : {bs : List ℕ} → TrailingAt text (at + 3) (n - 1) bs All → at + 3 * n ≤ length text
   percent_within t = let e = reach_within t.found lead_within in omega (arith, e.0, h.some)
 
-no_code : (start : Mark) (took : ℕ) (d : Decoded) → (tag_of the_type d ≡ 1) ⊎ (tag_of the_type d ≡ 2) → code_point start took d ≡ refused 24 start
+no_code : (start : Mark) (took : ℕ) (d : Decoded) → ((c n : ℕ) → d ≡ Char c n → ⊥) → code_point start took d ≡ refused 24 start
 unfolding code_point
-no_code start took (Char c n) (inl e) = absurd (omega arith)
-no_code start took (Char c n) (inr e) = absurd (omega arith)
+no_code start took (Char c n) w = absurd (w c n refl)
 no_code start took Ill w = refl
 no_code start took End w = refl
 
@@ -76,7 +73,7 @@ module _ {text : List ℕ} {at : ℕ} (start : Mark) where
     percent_code t = percent_trailing ∙ rw (t.same start)
 
     pub percent_ill : {bs : List ℕ} {d : Decoded} → TrailingAt text (at + 3) (n - 1) bs All → d ≡ first (a ∷ bs)
-        → (tag_of the_type d ≡ 1) ⊎ (tag_of the_type d ≡ 2) → percent start (chars (drop at text)) ≡ refused 24 start
+        → ((c n : ℕ) → d ≡ Char c n → ⊥) → percent start (chars (drop at text)) ≡ refused 24 start
     percent_ill {d = d} t e w = percent_code t ∙ rw (← e) (no_code start (n * 3 - 1) d w)
 
     pub percent_char : {bs : List ℕ} {d : Decoded} {c k : ℕ} → TrailingAt text (at + 3) (n - 1) bs All → d ≡ first (a ∷ bs) → d ≡ Char c k
@@ -90,6 +87,10 @@ others = 0 ∷ 0 ∷ 0 ∷ []
 
 pub room : {text : List ℕ} {at a n : ℕ} → Lead text at a n → length (take (n - 1) others) ≡ n - 1
 room {n = n} h = length-take-le (n - 1) others (omega (arith, h.few))
+
+pub trailed : {text bs : List ℕ} {at a n : ℕ} {r : Octets} → Lead text at a n → TrailingAt text (at + 3) (length (take (n - 1) others)) bs r
+    → TrailingAt text (at + 3) (n - 1) bs r
+trailed h t = rw (room h) at t
 
 -- and what was filled of it
 pub filled : (a n : ℕ) (bs rest : List ℕ) → 1 ≤ n → length bs ≡ n - 1 → take n (a ∷ (bs ++ rest)) ≡ a ∷ bs

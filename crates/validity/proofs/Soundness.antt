@@ -96,7 +96,7 @@ pub record Went (s : List ℕ) (at upto r : ℕ) : Type 0 where
   pub same : sound (drop at s) ≡ sound (drop r s)
   pub short : r < upto → sound (drop r s) ≡ false
 
-pub went : {s : List ℕ} {at upto r : ℕ} → at ≤ length s → upto ≤ length s → PassesTo s upto at r → Went s at upto r
+pub went : {s : List ℕ} {upto at r : ℕ} → at ≤ length s → upto ≤ length s → PassesTo s upto at r → Went s at upto r
 went h u (past l) = record { onward = omega arith; within = h; same = refl; short = λ k. absurd (omega arith) }
 went {s} {at} h u (stops {n = n} l e z) =
     record { onward = omega arith; within = h; same = refl; short = λ _. sound_stop (drop at s) n (some_left s at (omega arith)) e z }

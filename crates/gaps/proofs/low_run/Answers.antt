@@ -1,8 +1,6 @@
 -- The count so far and the run that is left make the whole run.
-use Prim.Native.Nat.{◌+◌, ◌-◌}
-use mathlib.Core.Path.{◌∙◌, ◌≡◌, sym}
-use lib.ListN.{drop, length}
-use Rattle.gaps.specs.Line.{is_low, low_run}
+use mathlib.Core.Path.{◌∙◌, sym}
+use Rattle.gaps.specs.Line.{is_low}
 use Rattle.gaps.specs.Row.{row_over, row_past, row_turn}
 use borrow.Author.Rules.{rules}
 use Rattle.gaps.proofs.low_run.Goals as goal

@@ -1,9 +1,7 @@
 use Prim.Native.Nat.{◌+◌, ◌-◌}
-use mathlib.Core.Path.{◌∙◌, ◌≡◌, sym}
+use mathlib.Core.Path.{◌≡◌}
 use lib.ListN.{drop, length}
-use Rattle.gaps.specs.Line.{is_low, low_run}
-use Rattle.gaps.specs.Row.{row_over, row_past, row_turn}
-use borrow.Author.Rules.{rules}
+use Rattle.gaps.specs.Line.{low_run}
 use Rattle.gaps.proofs.low_run.Given as goal
 
 abbrev pub invariant-loop-i : goal.invariant-loop-i

@@ -1,10 +1,7 @@
 -- The invariant: only spaces were passed.
-use Prim.Native.Nat.{◌-◌}
 use mathlib.Core.Path.{◌∙◌, sym}
-use lib.ListN.{length}
 use native.Mathlib.Omega.{arith}
-use Rattle.chars.specs.Each.{SomeBlocks, blocks_end, blocks_more, blocks_out, each_none}
-use Rattle.chars.specs.Blocks.{is_space}
+use Rattle.chars.specs.Each.{blocks_end, blocks_more, blocks_out, each_none}
 use Rattle.gaps.proofs.past_space_blocks.Goals as goal
 
 pub loop-at-init : goal.loop-at-init

@@ -1,8 +1,6 @@
 use Prim.Native.Nat.{◌-◌}
-use mathlib.Core.Path.{◌∙◌, sym}
 use lib.ListN.{length}
-use native.Mathlib.Omega.{arith}
-use Rattle.chars.specs.Each.{SomeBlocks, blocks_end, blocks_more, blocks_out, each_none}
+use Rattle.chars.specs.Each.{SomeBlocks}
 use Rattle.chars.specs.Blocks.{is_space}
 use Rattle.gaps.proofs.past_space_blocks.Given as goal
 

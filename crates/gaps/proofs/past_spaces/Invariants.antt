@@ -1,11 +1,7 @@
 use Prim.Native.Nat.{◌-◌}
-use native.Mathlib.Omega.{arith}
 use lib.ListN.{length}
-use borrow.Author.Tests.{eq-eqb}
-use Rattle.yaml_text.specs.Char.{space}
 use Rattle.chars.specs.Blocks.{is_space}
-use Rattle.chars.specs.Each.{Each, each_none, each_one, each_then}
-use Rattle.gaps.specs.Spaces.{spaces_over, spaces_past, tries_each}
+use Rattle.chars.specs.Each.{Each}
 use Rattle.gaps.proofs.past_spaces.Given as goal
 
 abbrev pub invariant-loop-at : goal.invariant-loop-at

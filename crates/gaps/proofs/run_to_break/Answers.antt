@@ -1,13 +1,13 @@
 -- The line from here on is what is left of the line.
-use Prim.Native.Nat.{◌-◌, ◌≤◌, ℕ}
+use Prim.Native.Nat.{◌≤◌, ℕ}
 use mathlib.Core.List.{List}
 use mathlib.Core.Path.{◌∙◌, sym}
 use native.Mathlib.Omega.{arith}
-use lib.ListN.{drop, length}
+use lib.ListN.{drop}
 use Rattle.yaml_text.specs.Mark.{Run}
 use Rattle.yaml_text.specs.Utf8.{chars}
 use Rattle.chars.specs.declared.mark.Place.{Place}
-use Rattle.chars.specs.Bytes.{CharAt, char_at, none_told}
+use Rattle.chars.specs.Bytes.{CharAt, char_at, none_told, not_char}
 use Rattle.chars.specs.Places.{small}
 use Rattle.chars.specs.Reach.{reach_one}
 use Rattle.gaps.specs.Line.{line}
@@ -29,7 +29,7 @@ skip_n_non_blank-q-requires c = (small c.loop-code.invariant.walks.stands (searc
 pub returns-in_default : goal.returns-in_default
 returns-in_default c =
     let spanned : Spanning (c.args.text.now) c.args.start (c.skip_n_non_blank-q.result) (line-from (c.args.text.now) c.args.start) (line-from (c.args.text.now) (c.skip_n_non_blank-q.result)) = low_spans c.low_run.ensures c.loop-code.invariant c.skip_n_non_blank-q.ensures in
-    spans_done (spanned) (end_done _ _ (none_told (c.args.text.now) (c.skip_n_non_blank-q.result).at c.char_at-d.ensures c.in_default.in_default-own.keys2))
+    spans_done (spanned) (end_done _ _ (none_told (c.args.text.now) (c.skip_n_non_blank-q.result).at c.char_at-d.ensures (not_char c.char_at-d.result c.in_default.not-Char)))
 
 pub returns-then-is_break : goal.returns-then-is_break
 returns-then-is_break c =

@@ -1,18 +1,11 @@
-use Prim.Native.Nat.{◌-◌, ◌≤◌, ℕ}
+use Prim.Native.Nat.{◌-◌, ℕ}
 use mathlib.Core.List.{List}
-use mathlib.Core.Path.{◌∙◌, sym}
-use native.Mathlib.Omega.{arith}
 use lib.ListN.{drop, length}
 use Rattle.yaml_text.specs.Mark.{Run}
 use Rattle.yaml_text.specs.Utf8.{chars}
 use Rattle.chars.specs.declared.mark.Place.{Place}
-use Rattle.chars.specs.Bytes.{CharAt, char_at, none_told}
-use Rattle.chars.specs.Places.{small}
-use Rattle.chars.specs.Reach.{reach_one}
 use Rattle.gaps.specs.Line.{line}
-use Rattle.gaps.specs.Span.{Spanning, spans_along, spans_done, spans_start}
-use Rattle.gaps.proofs.Laws.{end_done, line_done, line_turn, low_few, low_spans}
-use borrow.Author.Rules.{rules}
+use Rattle.gaps.specs.Span.{Spanning}
 use Rattle.gaps.proofs.run_to_break.Given as goal
 
 abbrev line-from : List ℕ → Place → Run

@@ -1,24 +1,18 @@
 -- The gap from here on, behind what stands before it, is what is left of the gap.
-use Prim.Native.Nat.{◌-◌, ◌<◌, ◌≤◌, ℕ}
+use Prim.Native.Nat.{◌<◌, ◌≤◌}
 use mathlib.Core.Bool.{true}
-use mathlib.Core.List.{List, [], ◌∷◌}
 use mathlib.Core.Path.{◌∙◌, ◌≡◌, refl, sym}
 use native.Mathlib.Omega.{arith}
 use lib.ListN.{length}
-use types.Run.{miss}
 use Rattle.yaml_text.specs.Char.{'#'}
 use Rattle.yaml_text.specs.Class.{is_blank, is_break}
-use Rattle.yaml_text.specs.Pick.{pick}
-use Rattle.yaml_lexeme.specs.declared.Before.TheVariants.{AfterText, Leading}
-use Rattle.chars.specs.declared.mark.Place.{Place}
 use Rattle.chars.specs.Ascii.{blank_ascii}
 use Rattle.chars.specs.Bytes.{CharAt, ascii_char, eq_char}
 use Rattle.chars.specs.Places.{small}
-use Rattle.chars.specs.View.{Stands, view}
+use Rattle.chars.specs.View.{Stands}
 use Rattle.gaps.specs.Answers.{skips_from, skips_refused}
 use Rattle.gaps.specs.Breaks.{BreakAt, break_at}
-use Rattle.gaps.specs.Gap.{Open, gap_from}
-use Rattle.gaps.specs.Walk.{Walks, walks_move, walks_start}
+use Rattle.gaps.specs.Walk.{walks_move, walks_start}
 use Rattle.gaps.proofs.Laws.{blanks_some, gap_blanks, gap_comment, gap_line, gap_wrong, line_some, open_blank, open_start, other_at}
 use borrow.Author.Rules.{rules}
 use Rattle.gaps.proofs.skip_gap.Goals as goal
@@ -122,6 +116,5 @@ loop-m-smaller c =
 pub loop-m-preserved : goal.loop-m-preserved
 loop-m-preserved c =
     let hash-char : CharAt (c.args.text.now) (c.loop-m.p).at '#' 1 = eq_char _ _ _ c.byte-c.ensures '#' tt c.if-c-ne35.false in
-    let not_after : c.loop-m.b ≡ AfterText → ⊥ = λ e. miss (0 ∷ 1 ∷ 2 ∷ 4 ∷ []) 3 tt (rw e at c.in_default.in_default-own.keys2) in
     let w = c.to_break-p.ensures in
-    (walks_move c.loop-m.invariant.0 w (gap_comment _ _ _ (hash-char) (not_after) w), tt)
+    (walks_move c.loop-m.invariant.0 w (gap_comment _ _ _ (hash-char) c.in_default.not-AfterText w), tt)

@@ -1,14 +1,12 @@
 -- The invariant: what is left, from the mark here, is refused as the whole is.
-use Prim.Native.Nat.{◌-◌, ℕ}
-use mathlib.Core.List.{List}
 use mathlib.Core.Path.{◌∙◌, sym}
 use native.Mathlib.Omega.{arith}
-use lib.ListN.{drop, length}
-use Rattle.chars.specs.Bytes.{CharAt, char_at}
+use lib.ListN.{drop}
+use Rattle.chars.specs.Bytes.{CharAt, char_at, not_char}
 use Rattle.chars.specs.Lines.{break_few}
 use Rattle.chars.specs.Places.{small}
 use Rattle.validity.proofs.DecodeTurns.{some_left, turn_none, turn_nul}
-use Rattle.validity.proofs.Near.{Near, near_break, near_char, near_end, near_start}
+use Rattle.validity.proofs.Near.{near_break, near_char, near_end, near_start}
 use borrow.Author.Rules.{rules}
 use Rattle.validity.proofs.first_refusal.Goals as goal
 
@@ -27,7 +25,7 @@ loop-p-preserved-then-n-ne0 c = rw c.skip_linebreak-p.ensures (near_break c.brea
 pub returns-in_default : goal.returns-in_default
 returns-in_default c =
     c.refused.ensures
-    ∙ turn_none c.loop-p.p.mark (drop c.loop-p.p.at (c.args.s.now)) c.char_at-d.result (some_left (c.args.s.now) c.loop-p.p.at c.loop-p-test.true) c.char_at-d.ensures c.in_default.in_default-own.keys2
+    ∙ turn_none c.loop-p.p.mark (drop c.loop-p.p.at (c.args.s.now)) c.char_at-d.result (some_left (c.args.s.now) c.loop-p.p.at c.loop-p-test.true) c.char_at-d.ensures (not_char c.char_at-d.result c.in_default.not-Char)
     ∙ c.loop-p.invariant.same
 
 pub returns-then-code-eq0 : goal.returns-then-code-eq0

@@ -1,9 +1,6 @@
 -- What is left to go gives the whole way.
-use Prim.Native.Nat.{◌-◌, ◌≤◌, ℕ}
-use mathlib.Core.List.{List}
 use native.Mathlib.Omega.{arith}
-use lib.ListN.{length}
-use Rattle.validity.specs.Sound.{PassesTo, onto, past, stops}
+use Rattle.validity.specs.Sound.{onto, past, stops}
 use Rattle.validity.proofs.Soundness.{PassStep, next}
 use borrow.Author.Rules.{rules}
 use Rattle.validity.proofs.go_slow.Goals as goal

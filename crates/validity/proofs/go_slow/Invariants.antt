@@ -1,10 +1,6 @@
 use Prim.Native.Nat.{◌-◌, ◌≤◌, ℕ}
-use mathlib.Core.List.{List}
-use native.Mathlib.Omega.{arith}
 use lib.ListN.{length}
-use Rattle.validity.specs.Sound.{PassesTo, onto, past, stops}
-use Rattle.validity.proofs.Soundness.{PassStep, next}
-use borrow.Author.Rules.{rules}
+use Rattle.validity.specs.Sound.{PassesTo}
 use Rattle.validity.proofs.go_slow.Given as goal
 
 abbrev pub invariant-loop-i : goal.invariant-loop-i

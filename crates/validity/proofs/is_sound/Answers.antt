@@ -1,10 +1,6 @@
 -- The invariant: what is left passes just where the whole does.
-use Prim.Native.Nat.{◌-◌, ◌≤◌, ℕ}
-use mathlib.Core.List.{List}
-use mathlib.Core.Path.{◌∙◌, ◌≡◌, refl, sym}
+use mathlib.Core.Path.{◌∙◌, refl, sym}
 use native.Mathlib.Omega.{arith}
-use lib.ListN.{drop, length}
-use Rattle.validity.specs.Sound.{sound}
 use Rattle.validity.proofs.Soundness.{Went, sound_past, went}
 use Rattle.chars.specs.Each.{each_block}
 use Rattle.validity.proofs.Blocks.{sound_block}

@@ -1,13 +1,7 @@
-use Prim.Native.Nat.{◌-◌, ◌≤◌, ℕ}
-use mathlib.Core.List.{List}
-use mathlib.Core.Path.{◌∙◌, ◌≡◌, refl, sym}
-use native.Mathlib.Omega.{arith}
+use Prim.Native.Nat.{◌-◌, ◌≤◌}
+use mathlib.Core.Path.{◌≡◌}
 use lib.ListN.{drop, length}
 use Rattle.validity.specs.Sound.{sound}
-use Rattle.validity.proofs.Soundness.{Went, sound_past, went}
-use Rattle.chars.specs.Each.{each_block}
-use Rattle.validity.proofs.Blocks.{sound_block}
-use borrow.Author.Rules.{rules}
 use Rattle.validity.proofs.is_sound.Given as goal
 
 abbrev pub invariant-loop-at : goal.invariant-loop-at

@@ -1,6 +1,4 @@
 -- Each way out is the case of one length that the lead byte tells.
-use Prim.Native.Nat.{ℕ}
-use mathlib.Core.List.{List}
 use mathlib.Core.Path.{◌∙◌, ◌≡◌, ap, sym}
 use native.Mathlib.Omega.{arith}
 use Rattle.utf8.proofs.Laws.{case0, case2, case3, case4, lone}

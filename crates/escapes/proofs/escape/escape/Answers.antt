@@ -1,6 +1,5 @@
 -- Each way out is what the definition makes of the letter behind the backslash.
-use Prim.Native.Nat.{◌+◌, ◌<◌, ℕ}
-use mathlib.Core.List.{List}
+use Prim.Native.Nat.{◌+◌, ◌<◌}
 use mathlib.Core.Path.{◌∙◌, ◌≡◌, ap, subst, sym}
 use native.Mathlib.Omega.{arith}
 use lib.ListN.{drop}

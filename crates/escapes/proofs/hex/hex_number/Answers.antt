@@ -1,10 +1,10 @@
 -- Invariant: the digits so far and those that are left make the whole number.
-use Prim.Native.Nat.{◌*◌, ◌+◌, ◌-◌, ◌^◌, ◌≤◌}
+use Prim.Native.Nat.{◌*◌, ◌+◌, ◌^◌, ◌≤◌}
 use mathlib.Core.Bool.{true}
 use mathlib.Core.Path.{◌∙◌, ◌≡◌, sym}
 use native.Mathlib.Omega.{arith}
 use Rattle.yaml_text.specs.Class.{is_hex}
-use Rattle.escapes.proofs.Numbers.{Reading, digit_value, reading_done, reading_more, reading_room, reading_start, reading_stop}
+use Rattle.escapes.proofs.Numbers.{digit_value, reading_done, reading_more, reading_room, reading_start, reading_stop}
 use Rattle.escapes.proofs.hex.hex_number.Goals as goal
 
 pub loop-i-init : goal.loop-i-init

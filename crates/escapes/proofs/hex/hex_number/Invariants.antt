@@ -1,9 +1,5 @@
-use Prim.Native.Nat.{◌*◌, ◌+◌, ◌-◌, ◌^◌, ◌≤◌}
-use mathlib.Core.Bool.{true}
-use mathlib.Core.Path.{◌∙◌, ◌≡◌, sym}
-use native.Mathlib.Omega.{arith}
-use Rattle.yaml_text.specs.Class.{is_hex}
-use Rattle.escapes.proofs.Numbers.{Reading, digit_value, reading_done, reading_more, reading_room, reading_start, reading_stop}
+use Prim.Native.Nat.{◌-◌}
+use Rattle.escapes.proofs.Numbers.{Reading}
 use Rattle.escapes.proofs.hex.hex_number.Given as goal
 
 abbrev pub invariant-loop-i : goal.invariant-loop-i

@@ -1,11 +1,10 @@
 -- Invariant: the octets that were read, with those that are left, are all of them.
-use Prim.Native.Nat.{◌*◌, ◌+◌, ◌-◌}
+use Prim.Native.Nat.{◌*◌, ◌+◌}
 use mathlib.Core.Path.{◌∙◌, sym}
-use lib.ListN.{length}
 use Rattle.chars.specs.Reach.{reach_within}
 use Rattle.escapes.specs.declared.hex.Hex.TheVariants.{Value}
 use Rattle.escapes.specs.Parts.{OctetAt}
-use Rattle.escapes.proofs.Trail.{Trailed, trailed_done, trailed_head, trailed_more, trailed_none, trailed_start}
+use Rattle.escapes.proofs.Trail.{trailed_done, trailed_head, trailed_more, trailed_none, trailed_start}
 use borrow.Author.Rules.{rules}
 use Rattle.escapes.proofs.percent.trailing.Goals as goal
 

@@ -1,11 +1,6 @@
-use Prim.Native.Nat.{◌*◌, ◌+◌, ◌-◌}
-use mathlib.Core.Path.{◌∙◌, sym}
+use Prim.Native.Nat.{◌-◌}
 use lib.ListN.{length}
-use Rattle.chars.specs.Reach.{reach_within}
-use Rattle.escapes.specs.declared.hex.Hex.TheVariants.{Value}
-use Rattle.escapes.specs.Parts.{OctetAt}
-use Rattle.escapes.proofs.Trail.{Trailed, trailed_done, trailed_head, trailed_more, trailed_none, trailed_start}
-use borrow.Author.Rules.{rules}
+use Rattle.escapes.proofs.Trail.{Trailed}
 use Rattle.escapes.proofs.percent.trailing.Given as goal
 
 abbrev pub invariant-loop-i : goal.invariant-loop-i
