@@ -1,6 +1,5 @@
 -- The three answers to a character: itself, the one that its escape is, a refusal.
 use mathlib.Core.Path.{◌∙◌, ap, refl}
-use Rattle.yaml_text.specs.declared.Mark.{Mark}
 use Rattle.yaml_text.specs.Char.{'%'}
 use Rattle.chars.specs.Bytes.{CharAt}
 use Rattle.escapes.specs.Escaped.{refusal_of}

@@ -1,13 +1,9 @@
 -- The invariant: what was passed, with the run that is left, is the whole run.
-use Prim.Native.Nat.{◌-◌, ℕ}
-use mathlib.Core.List.{List}
 use mathlib.Core.Path.{◌∙◌, sym}
 use native.Mathlib.Omega.{arith}
-use lib.ListN.{length}
-use Rattle.chars.specs.Bytes.{CharAt, char_at}
+use Rattle.chars.specs.Bytes.{CharAt, char_at, not_char}
 use Rattle.chars.specs.Places.{small}
-use Rattle.runs.specs.Run.{test_of}
-use Rattle.runs.proofs.Passing.{Passing, passing_end, passing_more, passing_start, passing_stop}
+use Rattle.runs.proofs.Passing.{passing_end, passing_more, passing_start, passing_stop}
 use borrow.Author.Rules.{rules}
 use Rattle.runs.proofs.run_of.Goals as goal
 
@@ -15,7 +11,7 @@ pub loop-code-init : goal.loop-code-init
 loop-code-init c = passing_start c.requires
 
 pub returns-in_default : goal.returns-in_default
-returns-in_default c = passing_end c.loop-code.invariant c.char_at-d.ensures c.in_default.in_default-own.keys2
+returns-in_default c = passing_end c.loop-code.invariant c.char_at-d.ensures (not_char c.char_at-d.result c.in_default.not-Char)
 
 pub skip_non_blank-p-requires : goal.skip_non_blank-p-requires
 skip_non_blank-p-requires c =

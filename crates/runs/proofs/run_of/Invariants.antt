@@ -1,13 +1,7 @@
-use Prim.Native.Nat.{◌-◌, ℕ}
-use mathlib.Core.List.{List}
-use mathlib.Core.Path.{◌∙◌, sym}
-use native.Mathlib.Omega.{arith}
+use Prim.Native.Nat.{◌-◌}
 use lib.ListN.{length}
-use Rattle.chars.specs.Bytes.{CharAt, char_at}
-use Rattle.chars.specs.Places.{small}
 use Rattle.runs.specs.Run.{test_of}
-use Rattle.runs.proofs.Passing.{Passing, passing_end, passing_more, passing_start, passing_stop}
-use borrow.Author.Rules.{rules}
+use Rattle.runs.proofs.Passing.{Passing}
 use Rattle.runs.proofs.run_of.Given as goal
 
 abbrev pub invariant-loop-code : goal.invariant-loop-code
