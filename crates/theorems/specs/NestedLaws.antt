@@ -1,9 +1,9 @@
 -- Laws of nested tokens: one list behind another; the tokens of slots, where events give one more or put some in before one that was given (for Nesting).
-use Rattle.std.specs.Prelude.{◌+◌, ◌<◌, ◌≤◌, suc, zero, ℕ, List, [], ◌++◌, ◌∷◌, ◌≡◌, refl, drop, length}
-use Rattle.std.proofs.Common.{arith, length-append}
+use Rattle.std.specs.Prelude.{◌<◌, ◌≤◌, suc, zero, ℕ, List, [], ◌++◌, ◌∷◌, ◌≡◌, refl, drop, length}
+use Rattle.std.proofs.Common.{◌∙◌, sym, arith, length-append}
 use Rattle.std.proofs.lemmas.List.{drop-append-le}
 use Rattle.yaml_lexeme.specs.Token.{Token}
-use Rattle.yaml_lexeme.specs.Role.{Open, Role, role}
+use Rattle.yaml_lexeme.specs.Role.{Open, Role, ends, ends_all, neither, role, starts}
 use Rattle.yaml_scan.specs.State.{Event, put}
 use Rattle.yaml_scan.specs.Slots.{Slot, flat, note, slot, slots}
 use Rattle.yaml_scan.specs.SlotLaws.{flat_append}
@@ -21,11 +21,21 @@ nested_split (t ∷ ts) (then e h) = let k = nested_split ts h in (k.0, then e k
 
 -- what tokens leave open is one thing
 
+-- the starts still open behind a token of this role
+abbrev open_behind : Role → List Open → List Open
+open_behind (starts kind) os = kind ∷ os
+open_behind (ends kind) os = drop 1 os
+open_behind ends_all os = []
+open_behind neither os = os
+
+turn_is : {r : Role} {a b : List Open} → Turns r a b → b ≡ open_behind r a
+turn_is opened = refl
+turn_is closed = refl
+turn_is ended = refl
+turn_is kept = refl
+
 turn_one : {r : Role} {a b c : List Open} → Turns r a b → Turns r a c → b ≡ c
-turn_one opened opened = refl
-turn_one closed closed = refl
-turn_one ended ended = refl
-turn_one kept kept = refl
+turn_one e f = turn_is e ∙ sym (turn_is f)
 
 nested_one : {a b c : List Open} {ts : List Token} → Nested a ts b → Nested a ts c → b ≡ c
 nested_one done done = refl
@@ -107,10 +117,10 @@ unfolding flat note
 noted_first k w ts [] e c h n = absurd c
 noted_first {a} zero w ts (x ∷ xs) e c h n =
     rw (nested_one n (h a)) (nested_append (e a) (rw c at (h (w ++ a))))
-noted_first (suc k) w ts (x ∷ xs) e c h n =
+noted_first {a} (suc k) w ts (x ∷ xs) e c h n =
     let s = nested_split x.before n in
     let r = nested_split (x.token ∷ []) s.2 in
-    nested_append s.1 (nested_append r.1 (noted_first k w ts xs e c h r.2))
+    nested_append s.1 (nested_append r.1 (noted_first {a = r.0} k w ts xs e c h r.2))
 
 pub since_noted : {a b : List Open} (j k : ℕ) (w : List Open) (ts : List Token) (xs : List Slot) → j ≤ k → ((os : List Open) → Nested os ts (w ++ os)) → Clear k xs → Leads k [] xs
     → Nested a (since j xs) b → Nested a (since j (note k ts xs)) (w ++ b)

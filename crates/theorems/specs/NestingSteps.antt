@@ -26,7 +26,7 @@ use Rattle.yaml_scan.specs.Runs.{puts_ends}
 use Rattle.theorems.specs.Induction.{outcome_good}
 use Rattle.theorems.specs.Nested.{Nested, done, kept, then}
 use Rattle.theorems.specs.NestedLaws.{silent}
-use Rattle.theorems.specs.Opened.{Built, blocks, built_says, built_top, built_without, outside}
+use Rattle.theorems.specs.Opened.{Built, built_says, built_top, built_without, outside}
 use Rattle.theorems.specs.NestingMoves.{AtEdge, Stands, at_zero, ends_lead, ends_turn, goes_to, move_builds, zero_level}
 
 -- a gap
@@ -49,7 +49,7 @@ gap_stands : {s t : State} {xs : List Slot} → Gapped s t → Stands s xs → S
 unfolding in_flow top_key
 gap_stands (gapped f spares (inside e)) h = (record { counted = h.counted; rises = h.rises; built = further f h.built }, λ z. true_false (sym e ∙ z))
 gap_stands (gapped f spares (lapses e)) h = (record { counted = h.counted; rises = h.rises; built = further f (built_without h.built) }, λ _. tt)
-gap_stands {s} (gapped f spares (stays e k)) h = (record { counted = h.counted; rises = h.rises; built = further f (built_top h.built) }, λ _. calm _ (top_key s.keys) k)
+gap_stands {s} {t} (gapped f spares (stays e k)) h = (record { counted = h.counted; rises = h.rises; built = further f (built_top h.built) }, λ _. calm (mark_of t) (top_key s.keys) k)
 
 -- the ends of blocks
 

@@ -72,13 +72,17 @@ pub record MovesOn (i : Indents) (m : Mark) (i' : Indents) (m' : Mark) : Type 0 
   pub same_blocks : blocks_of i' ≡ blocks_of i
   pub stays : (c : Candidate) → Stays i m c → Stays i' m' c
 
-pub built_says : {i i' : Indents} {m m' : Mark} {n n' : ℕ} {ks : List Candidate} {ls : List Level} {es : List Event} (u v : List Open) (xs : List Slot) → n ≤ n'
+built_on : {i i' : Indents} {m m' : Mark} (xs : List Slot) {es : List Event} (u v : List Open) {n n' : ℕ} {ks : List Candidate} {ls : List Level} → n ≤ n'
     → Turned u es v → MovesOn i m i' m' → Built i m xs u n ks ls → Built i' m' (slots xs es) v n' ks ls
-built_says {i} {i'} {es = es} u v xs b e g (outside {c = c} h s l) =
+built_on {i} {i'} xs {es = es} u v b e g (outside {c = c} h s l) =
     let k : Leads 0 (v ++ blocks i') (slots xs es) = rw g.same_blocks (leads_says 0 (u ++ blocks i) (v ++ blocks i) xs (omega arith) (turned_over u v (blocks i) e) l) in
     outside (since_turned u v xs c b e h) (g.stays c s) k
-built_says {n = n} {n' = n'} u v xs b e g (inside {c = c} {l = l} h t k) =
-    inside (since_turned u v xs c b e h) t (built_says (u ++ held l) (v ++ held l) xs (below_less n n' c b) (turned_over u v (held l) e) g k)
+built_on xs u v {n = n} {n' = n'} b e g (inside {c = c} {l = l} h t k) =
+    inside (since_turned u v xs c b e h) t (built_on xs (u ++ held l) (v ++ held l) (below_less n n' c b) (turned_over u v (held l) e) g k)
+
+pub built_says : {i i' : Indents} {m m' : Mark} {n n' : ℕ} {ks : List Candidate} {ls : List Level} {es : List Event} (u v : List Open) (xs : List Slot) → n ≤ n'
+    → Turned u es v → MovesOn i m i' m' → Built i m xs u n ks ls → Built i' m' (slots xs es) v n' ks ls
+built_says u v xs b e g h = built_on xs u v b e g h
 
 -- the numbers further out are smaller still
 below_most : (n : ℕ) (u : List Open) (xs : List Slot) (c : Candidate) → Since n u xs c → below n c ≤ n

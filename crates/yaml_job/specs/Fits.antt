@@ -4,7 +4,7 @@ use Rattle.std.proofs.Common.{append-nil, ◌∙◌, ap, arith}
 use Rattle.yaml_text.specs.Class.{same}
 use Rattle.yaml_lexeme.specs.Token.{FlowEntry, FlowMappingEnd, FlowSequenceEnd, FlowSequenceStart, Key, StreamEnd, StreamStart, Token, Value, kind_bytes}
 use Rattle.yaml_lexeme.specs.Record.{laid, number_of, style_number, values_of}
-use Rattle.yaml_stream.specs.Stream.{Next, token}
+use Rattle.yaml_stream.specs.Stream.{Next}
 use Rattle.yaml_job.specs.declared.Effect.TheVariants.{Finishes, Hands, Passes}
 use Rattle.yaml_job.specs.declared.Field.{Field}
 use Rattle.yaml_job.specs.declared.Field.TheVariants.{Panel, Sample, Seeds}

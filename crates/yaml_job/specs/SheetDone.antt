@@ -7,7 +7,7 @@ use Rattle.yaml_text.specs.Char.{'a', 'b'}
 use Rattle.yaml_text.specs.Mark.{along, origin}
 use Rattle.yaml_text.specs.Test.{true_false}
 use Rattle.yaml_lexeme.specs.declared.Style.TheVariants.{Plain}
-use Rattle.yaml_lexeme.specs.Token.{BlockEnd, FlowSequenceStart, Kind, StreamEnd, StreamStart, Token, empty_token, texts}
+use Rattle.yaml_lexeme.specs.Token.{BlockEnd, FlowSequenceStart, Kind, StreamEnd, StreamStart, Token, Value, empty_token, texts}
 use Rattle.yaml_lexeme.specs.Record.{laid, number_of, record_words}
 use Rattle.yaml_scan.specs.State.{Event, State, put}
 use Rattle.yaml_scan.specs.Document.{forced}
@@ -19,7 +19,7 @@ use Rattle.theorems.specs.Accepted.{Accepts}
 use Rattle.yaml_stream.specs.Stream.{least_records}
 use Rattle.yaml_stream.specs.KeysNear.{run_from, run_on}
 use Rattle.yaml_stream.specs.Orderly.{part, scalar_part}
-use Rattle.yaml_stream.specs.SeedList.{before_entries, bracket_says, bracket_step, close_step, close_token, colon_says, colon_step, comma_step, comma_token, end_step, entries, last_entry, next_entry, one_given, seed_step, seed_token, simple_decode}
+use Rattle.yaml_stream.specs.SeedList.{before_entries, bracket_says, bracket_step, close_step, close_token, colon_mark, colon_says, colon_step, comma_step, comma_token, end_step, entries, last_entry, next_entry, one_given, open_mark, seed_step, seed_token, simple_decode, spans}
 use Rattle.yaml_job.specs.declared.Field.{Field}
 use Rattle.yaml_job.specs.declared.Field.TheVariants.{Panel, Sample, Seeds}
 use Rattle.yaml_job.specs.Job.{follow, job, kind_number, spelled}
@@ -125,7 +125,7 @@ sheet_lines : (k : ℕ) → OnNameLine (sheet_tokens k)
 unfolding all_open job_open part scalar_part
 sheet_lines k =
     past refl (past refl (past refl (past refl (past refl (past refl (past refl (past refl (past refl (past refl (past refl
-    ((λ _. (refl, refl)), list_lines k first_entry _ _)))))))))))
+    ((λ _. (refl, refl)), list_lines k first_entry (spans Value (colon_mark 19 3) (along (colon_mark 19 3))) (spans FlowSequenceStart (open_mark 19 3) (along (open_mark 19 3))))))))))))))
 
 -- how long they are
 

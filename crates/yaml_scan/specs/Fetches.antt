@@ -53,14 +53,14 @@ told_ready {gs} {es} p f r k =
     let e = given_length gs es in
     record { counted = omega arith; levelled = k.levelled; known = k.known; ordered = k.ordered; no_nul = fits_no_nul f (no_nul_drop 1 p.rest r) }
 
-said_behind : {gs : List GivenToken} {s : State} {es : List Event} {t : State} → FurtherOn (behind_first s.place) t.place
+said_behind : {gs : List GivenToken} (s : State) {es : List Event} {t : State} → FurtherOn (behind_first s.place) t.place
     → (ReadyState gs s → Told gs es t.count t.keys t.levels) → All News (Fetched gs s) (got (goes_on es t))
-said_behind {gs} {s} {es} {t} f h =
+said_behind {gs} s {es} {t} f h =
     let k : Fetched gs s (goes_on es t) = (f, λ r. ((h r).placed, ready (told_ready s.place f r.no_nul (h r)))) in holds k
 
-said : {gs : List GivenToken} {s : State} {es : List Event} {t : State} → FurtherOn (skip_by 1 s.place) t.place
+said : {gs : List GivenToken} (s : State) {es : List Event} {t : State} → FurtherOn (skip_by 1 s.place) t.place
     → (ReadyState gs s → Told gs es t.count t.keys t.levels) → All News (Fetched gs s) (got (goes_on es t))
-said {s} f h = said_behind (fits_trans (first_fit s.place) f) h
+said s f h = said_behind s (fits_trans (first_fit s.place) f) h
 
 -- where tokens are given and the candidates stay
 kept : {gs : List GivenToken} {n : ℕ} {ks : List Candidate} {ls : List Level} {p : Place} (es : List Event) → OnlyPuts es → Ready gs n ks ls p → Told gs es (n + puts es) ks ls
@@ -138,7 +138,7 @@ unfolding fetch_flow_collection_start
 flow_collection_start_news gs limits sequence s =
     all_bind _ (stack_bracket_is limits (save_key s))
     (λ t i. rw i.2 (all_need _ 28 _ _ (all_bind _ (bracket_fit _ (save_key s).place)
-    (λ l r. said (rw (save_key_place s) at r.onward) (λ h. let k = saved s l.token (rw (save_key_place s) at r.starts) h in
+    (λ l r. said s (rw (save_key_place s) at r.onward) (λ h. let k = saved s l.token (rw (save_key_place s) at r.starts) h in
     record { placed = k.placed; counted = k.counted; levelled = ap suc k.levelled; known = (tt, k.known); ordered = k.ordered })))))
 
 closes_some : (sequence : Bool) (ls : List Level) → closes_level sequence ls ≡ true → 0 < length ls
@@ -154,7 +154,7 @@ pub flow_collection_end_news : (gs : List GivenToken) (sequence : Bool) (s : Sta
 unfolding fetch_flow_collection_end remove_key
 flow_collection_end_news gs sequence s =
     all_test _ 47 (mark_of s) _ (λ c. all_bind _ (bracket_fit _ s.place)
-    (λ l r. said r.onward (λ h.
+    (λ l r. said s r.onward (λ h.
     let i = closes_some sequence s.levels c in
     let k = kept _ (only_two (implicit_open s.levels) FlowMappingEnd (mark_of s) l.token) (without_ready h) in
     record {
@@ -169,7 +169,7 @@ pub flow_entry_news : (gs : List GivenToken) (s : State) → All News (Fetched g
 unfolding fetch_flow_entry remove_key
 flow_entry_news gs s =
     all_bind _ (bracket_fit _ s.place)
-    (λ l r. said r.onward (λ h. relevelled _
+    (λ l r. said s r.onward (λ h. relevelled _
     (kept _ (only_two (implicit_open s.levels) FlowMappingEnd (mark_of s) l.token) (without_ready h))))
 
 -- '-', '?' and ':'
@@ -178,13 +178,13 @@ pub block_entry_news : (gs : List GivenToken) (limits : Limits) (s : State) → 
 unfolding fetch_block_entry remove_key
 block_entry_news gs limits s =
     all_need _ 46 (mark_of s) _ (all_bind _ (all_any (roll_state limits (mark_of s) s))
-    (λ r _. said (fits_refl _) (λ h. kept _ (only_two r.starts BlockSequenceStart (mark_of s) _) (without_ready h))))
+    (λ r _. said s (fits_refl _) (λ h. kept _ (only_two r.starts BlockSequenceStart (mark_of s) _) (without_ready h))))
 
 pub key_news : (gs : List GivenToken) (limits : Limits) (s : State) → All News (Fetched gs s) (fetch_key limits s)
 unfolding fetch_key remove_key
 key_news gs limits s =
     all_need _ 46 (mark_of s) _ (all_bind _ (all_any (roll_state limits (mark_of s) s))
-    (λ r _. said (fits_refl _) (λ h. relevelled _
+    (λ r _. said s (fits_refl _) (λ h. relevelled _
     (kept _ (only_two r.starts BlockMappingStart (mark_of s) _) (without_ready h)))))
 
 all_empty : (m : Mark) (kinds : List Kind) → EmptyAt m (map (λ (kind : Kind). empty_token kind m) kinds)
@@ -196,7 +196,7 @@ value_with_news : (gs : List GivenToken) (limits : Limits) (n : ℕ) (k : Mark) 
 unfolding value_with
 value_with_news gs limits n k s f =
     all_bind _ (all_any (roll_state limits k s))
-    (λ r _. said (fits_refl _) (λ h. relevelled _ (used n k _ _ h (f h) (all_empty k (before_key (begins_pair s.levels) r.starts)))))
+    (λ r _. said s (fits_refl _) (λ h. relevelled _ (used n k _ _ h (f h) (all_empty k (before_key (begins_pair s.levels) r.starts)))))
 
 -- an empty token, or none, twice, and a token
 only_three : (b : Bool) (k : Kind) (b' : Bool) (k' : Kind) (m : Mark) (t : Token) → OnlyPuts ((empty_if b k m ++ empty_if b' k' m) ++ (put t ∷ []))
@@ -207,7 +207,7 @@ value_without_news : (gs : List GivenToken) (limits : Limits) (s : State) → Al
 unfolding value_without
 value_without_news gs limits s =
     all_need _ 46 (mark_of s) _ (all_bind _ (all_any (roll_state limits (mark_of s) s))
-    (λ r _. said (fits_refl _) (λ h. relevelled _
+    (λ r _. said s (fits_refl _) (λ h. relevelled _
     (kept _ (only_three (begins_pair s.levels) FlowMappingStart r.starts BlockMappingStart (mark_of s) _) (without_ready h)))))
 
 pub value_by_news : (gs : List GivenToken) (limits : Limits) (k : Candidate) (s : State) → (ReadyState gs s → Tops gs s.keys k) → All News (Fetched gs s) (value_by limits k s)
@@ -219,20 +219,20 @@ value_by_news gs limits (Possible required n k) s f = value_with_news gs limits 
 
 pub plain_scalar_news : (gs : List GivenToken) (s : State) → All News (Fetched gs s) (fetch_plain_scalar s)
 unfolding fetch_plain_scalar
-plain_scalar_news gs s = let r = plain_fit (in_flow s) s.place in said r.onward (λ h. saved s _ r.starts h)
+plain_scalar_news gs s = let r = plain_fit (in_flow s) s.place in said s r.onward (λ h. saved s _ r.starts h)
 
 pub flow_scalar_news : (gs : List GivenToken) (single : Bool) (s : State) → All News (Fetched gs s) (fetch_flow_scalar single s)
 unfolding fetch_flow_scalar
 flow_scalar_news gs single s =
-    all_bind _ (flow_scalar_fit (in_flow s) single s.indents.indent s.place) (λ l r. said r.onward (λ h. saved s _ r.starts h))
+    all_bind _ (flow_scalar_fit (in_flow s) single s.indents.indent s.place) (λ l r. said s r.onward (λ h. saved s _ r.starts h))
 
 pub tag_news : (gs : List GivenToken) (s : State) → All News (Fetched gs s) (fetch_tag s)
 unfolding fetch_tag
-tag_news gs s = all_bind _ (tag_fit (in_flow s) s.place) (λ l r. said r.onward (λ h. saved s _ r.starts h))
+tag_news gs s = all_bind _ (tag_fit (in_flow s) s.place) (λ l r. said s r.onward (λ h. saved s _ r.starts h))
 
 pub anchor_news : (gs : List GivenToken) (alias : Bool) (s : State) → All News (Fetched gs s) (fetch_anchor alias s)
 unfolding fetch_anchor
-anchor_news gs alias s = all_bind _ (anchor_fit alias s.place) (λ l r. said r.onward (λ h. saved s _ r.starts h))
+anchor_news gs alias s = all_bind _ (anchor_fit alias s.place) (λ l r. said s r.onward (λ h. saved s _ r.starts h))
 
 -- the state behind a block scalar
 abbrev behind_block : Lexeme → Indents → State → State
@@ -267,12 +267,12 @@ pub directive_news : (gs : List GivenToken) (s : State) → All News (Fetched gs
 unfolding fetch_directive leave_blocks remove_key
 directive_news gs s =
     all_bind _ (directive_fit s.place)
-    (λ l r. said r.onward (λ h. kept _ (only_last (unroll_to 0 s).ended (mark_of s) l.token) (without_ready h)))
+    (λ l r. said s r.onward (λ h. kept _ (only_last (unroll_to 0 s).ended (mark_of s) l.token) (without_ready h)))
 
 pub byte_order_mark_news : (gs : List GivenToken) (s : State) → All News (Fetched gs s) (fetch_byte_order_mark s)
 unfolding fetch_byte_order_mark leave_blocks remove_key
 byte_order_mark_news gs s =
-    said_behind (fits_refl _) (λ h. kept _ (only_last (unroll_to 0 s).ended (mark_of s) _) (without_ready h))
+    said_behind s (fits_refl _) (λ h. kept _ (only_last (unroll_to 0 s).ended (mark_of s) _) (without_ready h))
 
 pub after_marker_fit : (starts : Bool) (p : Place) → All Place (FurtherOn p) (after_marker starts p)
 unfolding after_marker
@@ -283,7 +283,7 @@ pub document_indicator_news : (gs : List GivenToken) (begins : Bool) (s : State)
 unfolding fetch_document_indicator leave_blocks remove_key
 document_indicator_news gs begins s i =
     all_need _ 47 (mark_of s) _ (all_bind _ (after_marker_fit begins (skip_by 3 s.place))
-    (λ p f. said (fits_trans (skip_on 1 2 s.place i) f) (λ h. kept _ (only_last (unroll_to 0 s).ended (mark_of s) _) (without_ready h))))
+    (λ p f. said s (fits_trans (skip_on 1 2 s.place i) f) (λ h. kept _ (only_last (unroll_to 0 s).ended (mark_of s) _) (without_ready h))))
 
 -- the end is the end of the run
 pub stream_end_news : {P : News → Type 0} (gs : List GivenToken) (s : State) → ((es : List Event) → (ReadyState gs s → Placed gs es) → P (ends_with es)) → All News P (fetch_stream_end s)

@@ -1,6 +1,6 @@
 -- Where a required key may stand. In flow none is required. At level 0 one stands before the current mark; as long as its line goes on,
 -- no simple key is allowed, or the text is over.
-use Rattle.std.specs.Prelude.{◌<◌, ◌≤◌, Bool, ◌&&◌, false, not, true, List, [], ◌∷◌, ◌⊎◌, ◌≡◌, refl, ltb, drop}
+use Rattle.std.specs.Prelude.{◌<◌, ◌≤◌, Bool, ◌&&◌, ◌||◌, false, not, true, List, [], ◌∷◌, ◌⊎◌, ◌≡◌, refl, ltb, drop}
 use Rattle.std.proofs.Math.Logic.{inl}
 use Rattle.std.proofs.Common.{inr, ◌∙◌, sym, arith, ltb-false, ltb-true}
 use Rattle.yaml_text.specs.declared.Mark.{Mark}
@@ -24,8 +24,8 @@ use Rattle.yaml_scan.specs.declared.Limits.{Limits}
 use Rattle.yaml_scan.specs.Indent.{drop_non_ending}
 use Rattle.yaml_scan.specs.Keys.{is_required, set_key, top_key}
 use Rattle.yaml_scan.specs.State.{Event, News, State, allow, at_place, ends_with, goes_on, in_flow, lapse_key, mark_of, on_level, remove_key, rest_of, save_key, with_keys}
-use Rattle.yaml_scan.specs.Bracket.{closes_level, fetch_flow_collection_end, fetch_flow_collection_start, fetch_flow_entry, scan_bracket}
-use Rattle.yaml_scan.specs.Value.{fetch_block_entry, fetch_key, roll_state, value_by, value_with, value_without}
+use Rattle.yaml_scan.specs.Bracket.{closes_level, fetch_flow_collection_end, fetch_flow_collection_start, fetch_flow_entry, new_level, scan_bracket}
+use Rattle.yaml_scan.specs.Value.{begins_pair, fetch_block_entry, fetch_key, roll_state, value_by, value_with, value_without}
 use Rattle.yaml_scan.specs.Document.{after_marker, fetch_byte_order_mark, fetch_directive, fetch_document_indicator, fetch_stream_end, forced, leave_blocks}
 use Rattle.yaml_scan.specs.Fetch.{fetch, fetch_anchor, fetch_block_scalar, fetch_flow_scalar, fetch_plain_scalar, fetch_tag}
 use Rattle.yaml_scan.specs.Scan.{to_next_token}
@@ -141,7 +141,7 @@ module _ (s : State) (h : BetweenSteps s) (p : Place) (leads a : Bool) (f : Furt
   unfolding in_flow
   waits_on e o r =
       let k = zero_passed (mark_of s) s.keys s.levels e h.held in
-      (above_zero p.mark (top_key s.keys) r (passed_on _ _ (top_key s.keys) (later f) k) o, by_wait k (h.waits e r))
+      (above_zero p.mark (top_key s.keys) r (passed_on (mark_of s) p.mark (top_key s.keys) (later f) k) o, by_wait k (h.waits e r))
     where
       by_line : KeyPassed (mark_of s) (top_key s.keys) → (a ≡ false) ⊎ ((mark_of s).line < p.mark.line) → (a ≡ false) ⊎ (p.rest ≡ [])
       by_line k (inl z) = inl z
@@ -190,23 +190,23 @@ no_nul_behind : (p : Place) {q : Place} → FurtherOn (behind_first p) q → NoN
 no_nul_behind p f n = fits_no_nul f (no_nul_drop 1 p.rest n)
 
 -- the candidate goes
-gone_by : {s : State} {es : List Event} {t : State} → t.keys ≡ set_key Absent s.keys
+gone_by : (s : State) {es : List Event} {t : State} → t.keys ≡ set_key Absent s.keys
     → ((m : Mark) → Held m (set_key Absent s.keys) s.levels → Held m (set_key Absent s.keys) t.levels) → All News (KeepsBetween s) (got (goes_on es t))
 unfolding top_key is_required
-gone_by {s} {t = t} k l =
+gone_by s {t = t} k l =
     kept (λ f h. record {
-      held = rw k (l (mark_of t) (held_without _ s.keys s.levels (held_on (mark_of s) (mark_of t) s.keys s.levels (later f) h.held)));
+      held = rw k (l (mark_of t) (held_without (mark_of t) s.keys s.levels (held_on (mark_of s) (mark_of t) s.keys s.levels (later f) h.held)));
       waits = λ _ r. true_false (sym (rw k at r));
       no_nul = no_nul_behind s.place f h.no_nul;
     })
 
-gone : {s : State} {es : List Event} {t : State} → t.keys ≡ set_key Absent s.keys → t.levels ≡ s.levels → All News (KeepsBetween s) (got (goes_on es t))
-gone k l = gone_by k (λ m h. rw l h)
+gone : (s : State) {es : List Event} {t : State} → t.keys ≡ set_key Absent s.keys → t.levels ≡ s.levels → All News (KeepsBetween s) (got (goes_on es t))
+gone s k l = gone_by s k (λ m h. rw l h)
 
 -- and its level is changed
-gone_in : {s : State} {es : List Event} {t : State} (g : Level → Level) → t.keys ≡ set_key Absent s.keys → t.levels ≡ on_level g s.levels
+gone_in : (s : State) (g : Level → Level) {es : List Event} {t : State} → t.keys ≡ set_key Absent s.keys → t.levels ≡ on_level g s.levels
     → All News (KeepsBetween s) (got (goes_on es t))
-gone_in {s} g k l = gone_by k (λ m h. rw l (held_level m g (set_key Absent s.keys) s.levels h))
+gone_in s g k l = gone_by s k (λ m h. rw l (held_level m g (set_key Absent s.keys) s.levels h))
 
 -- a candidate is saved: in flow it is not required
 saved_held : (s : State) (q : Place) → FurtherOn (skip_by 1 s.place) q → Held (mark_of s) s.keys s.levels → Held q.mark (save_key s).keys (save_key s).levels
@@ -276,29 +276,33 @@ closes_keeps sequence s =
     outward m [] c h = true_false (sym c)
     outward m (l ∷ ls) c h = held_drop m s.keys l ls h
 
+-- what ':' makes of its level
+abbrev with_colon : List Level → Level → Level
+with_colon ls l = record { sequence = l.sequence; colon = true; question = l.question; implicit = l.implicit || begins_pair ls }
+
 value_by_keeps : (limits : Limits) (k : Candidate) (s : State) → All News (KeepsBetween s) (value_by limits k s)
 unfolding value_by value_with value_without
 value_by_keeps limits Absent s =
-    all_need _ 46 (mark_of s) _ (all_bind _ (all_any (roll_state limits (mark_of s) s)) (λ r _. gone_in _ refl refl))
-value_by_keeps limits (Possible required n k) s = all_bind _ (all_any (roll_state limits k s)) (λ r _. gone_in _ refl refl)
+    all_need _ 46 (mark_of s) _ (all_bind _ (all_any (roll_state limits (mark_of s) s)) (λ r _. gone_in s (with_colon s.levels) refl refl))
+value_by_keeps limits (Possible required n k) s = all_bind _ (all_any (roll_state limits k s)) (λ r _. gone_in s (with_colon s.levels) refl refl)
 
 pub fetch_keeps : (limits : Limits) (c : Choice) (s : State) → ChoiceSays c s → All News (KeepsBetween s) (fetch limits c s)
 unfolding fetch fetch_directive fetch_byte_order_mark fetch_document_indicator fetch_stream_end fetch_flow_entry fetch_block_entry fetch_key fetch_tag fetch_plain_scalar
     fetch_anchor fetch_flow_scalar leave_blocks remove_key
 fetch_keeps limits AtEnd s h = all_need _ 47 (mark_of s) _ (all_need _ 41 (forced (mark_of s)) _ (holds tt))
-fetch_keeps limits AtDirective s h = all_bind _ (all_any (scan_directive s.place)) (λ l _. gone refl refl)
-fetch_keeps limits AtByteOrderMark s h = gone refl refl
+fetch_keeps limits AtDirective s h = all_bind _ (all_any (scan_directive s.place)) (λ l _. gone s refl refl)
+fetch_keeps limits AtByteOrderMark s h = gone s refl refl
 fetch_keeps limits BelowIndent s h = not_read
 fetch_keeps limits Stray s h = not_read
 fetch_keeps limits (AtMarker starts) s h =
-    all_need _ 47 (mark_of s) _ (all_bind _ (all_any (after_marker starts (skip_by 3 s.place))) (λ p _. gone refl refl))
+    all_need _ 47 (mark_of s) _ (all_bind _ (all_any (after_marker starts (skip_by 3 s.place))) (λ p _. gone s refl refl))
 fetch_keeps limits (Opens sequence) s h = opens_keeps limits sequence s
 fetch_keeps limits (Closes sequence) s h = closes_keeps sequence s
-fetch_keeps limits AtComma s h = all_bind _ (all_any (scan_bracket FlowEntry s.place)) (λ l _. gone_in _ refl refl)
+fetch_keeps limits AtComma s h = all_bind _ (all_any (scan_bracket FlowEntry s.place)) (λ l _. gone_in s (λ l. new_level l.sequence) refl refl)
 fetch_keeps limits AtDash s h =
-    all_need _ 46 (mark_of s) _ (all_bind _ (all_any (roll_state limits (mark_of s) s)) (λ r _. gone refl refl))
+    all_need _ 46 (mark_of s) _ (all_bind _ (all_any (roll_state limits (mark_of s) s)) (λ r _. gone s refl refl))
 fetch_keeps limits AtQuestion s h =
-    all_need _ 46 (mark_of s) _ (all_bind _ (all_any (roll_state limits (mark_of s) s)) (λ r _. gone_in _ refl refl))
+    all_need _ 46 (mark_of s) _ (all_bind _ (all_any (roll_state limits (mark_of s) s)) (λ r _. gone_in s (λ l. record { sequence = l.sequence; colon = l.colon; question = true; implicit = l.implicit }) refl refl))
 fetch_keeps limits AtColon s h = value_by_keeps limits (top_key s.keys) s
 fetch_keeps limits AtTag s h = all_bind _ (tag_fit (in_flow s) s.place) (λ l r. saves r.onward refl refl refl)
 fetch_keeps limits AtPlain s h = saves (plain_fit (in_flow s) s.place).onward refl refl refl

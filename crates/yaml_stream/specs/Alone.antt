@@ -181,15 +181,15 @@ absent_last : {n k : ℕ} {s : State} {es : List Event} {ks : List Candidate} �
 unfolding possible
 absent_last l = record { front = l.front; last = l.last; is = l.is; numbered = l.numbered; falls = l.falls; alone = l.alone }
 
-move_last : {t : Token} {q : Place} {es : List Event} {i : Indents} {ks : List Candidate} {ls : List Level} (n : ℕ) (s : State) → Move s t q es i ks ls → (k : ℕ) × Last n k s es ks
-move_last {t} n s (tells e same) = (s.count, tells_last n s t (save_key s).keys (saved n s))
-move_last {t} n s (leaves e f) = (_, absent_last (gone_last n s (all_ends s) t))
-move_last {t} n s (opens sequence e same) = (s.count, absent_last (tells_last n s t (save_key s).keys (saved n s)))
-move_last {t} n s (closes sequence m e c) = (_, gone_last n s (pair_end m s) t)
-move_last {t} n s (parts m e) = (_, absent_last (gone_last n s (pair_end m s) t))
-move_last {t} n s (begins {pair = p} {r = r} sequence m e b) =
+move_last : (n : ℕ) (s : State) {t : Token} {q : Place} {es : List Event} {i : Indents} {ks : List Candidate} {ls : List Level} → Move s t q es i ks ls → (k : ℕ) × Last n k s es ks
+move_last n s {t} (tells e same) = (s.count, tells_last n s t (save_key s).keys (saved n s))
+move_last n s {t} (leaves e f) = (_, absent_last (gone_last n s (all_ends s) t))
+move_last n s {t} (opens sequence e same) = (s.count, absent_last (tells_last n s t (save_key s).keys (saved n s)))
+move_last n s {t} (closes sequence m e c) = (_, gone_last n s (pair_end m s) t)
+move_last n s {t} (parts m e) = (_, absent_last (gone_last n s (pair_end m s) t))
+move_last n s {t} (begins {pair = p} {r = r} sequence m e b) =
     (_, absent_last (gone_last n s (empty_if p FlowMappingStart m ++ empty_if r.starts (block_start sequence) m) t))
-move_last {t} n s (uses {pair = p} {n = k} {m = m} {r = r} e b c) = (_, absent_last (gone_last n s (put_before k (goes_in p r.starts m) ∷ []) t))
+move_last n s {t} (uses {pair = p} {n = k} {m = m} {r = r} e b c) = (_, absent_last (gone_last n s (put_before k (goes_in p r.starts m) ∷ []) t))
 
 -- a step
 

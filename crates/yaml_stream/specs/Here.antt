@@ -233,15 +233,15 @@ enters_length : (pair : Bool) (ls ls' : List Level) → Enters pair ls ls' → l
 enters_length pair [] ls' h = ap (λ (ks : List Level). length ks) h.0
 enters_length pair (l ∷ ls) ls' h = ap (λ (ks : List Level). length ks) h.1
 
-move_levelled : {t : Token} {q : Place} {es : List Event} {i : Indents} {ks : List Candidate} {ls : List Level} (s : State) → Move s t q es i ks ls → Levelled s.keys s.levels → Levelled ks ls
+move_levelled : (s : State) {t : Token} {q : Place} {es : List Event} {i : Indents} {ks : List Candidate} {ls : List Level} → Move s t q es i ks ls → Levelled s.keys s.levels → Levelled ks ls
 move_levelled s (tells e same) h = saved_levelled s h
 move_levelled s (leaves e f) h = set_levelled Absent s.keys s.levels h
 move_levelled s (opens sequence e same) h = ap suc (saved_levelled s h)
 move_levelled s (closes sequence m e c) h = omega (arith, closes_length sequence s.levels c, length-drop 1 s.keys)
 move_levelled s (parts m e) h =
     omega (arith, set_levelled Absent s.keys s.levels h, on_level_length (λ l. new_level l.sequence) s.levels)
-move_levelled {ls = ls} s (begins {pair = p} sequence m e b) h = omega (arith, set_levelled Absent s.keys s.levels h, enters_length p s.levels ls b.enters)
-move_levelled {ls = ls} s (uses {pair = p} e b c) h = omega (arith, set_levelled Absent s.keys s.levels h, enters_length p s.levels ls b.enters)
+move_levelled s {ls = ls} (begins {pair = p} sequence m e b) h = omega (arith, set_levelled Absent s.keys s.levels h, enters_length p s.levels ls b.enters)
+move_levelled s {ls = ls} (uses {pair = p} e b c) h = omega (arith, set_levelled Absent s.keys s.levels h, enters_length p s.levels ls b.enters)
 
 gap_levelled : {s t : State} → Gapped s t → Levelled s.keys s.levels → Levelled t.keys t.levels
 gap_levelled (gapped f spares (inside e)) h = h

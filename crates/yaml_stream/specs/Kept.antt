@@ -99,14 +99,14 @@ module _ (P : ℕ → Type 0) where
   names_gap {s} (gapped f spares (stays e k)) h = (names_top s.keys h, refl)
 
   -- a move
-  names_move : {t : Token} {q : Place} {es : List Event} {i : Indents} {ks : List Candidate} {ls : List Level} (s : State) → Move s t q es i ks ls → P s.count → Names P s.keys
+  names_move : (s : State) {t : Token} {q : Place} {es : List Event} {i : Indents} {ks : List Candidate} {ls : List Level} → Move s t q es i ks ls → P s.count → Names P s.keys
       → NotesAt P es × Names P ks
   names_move s (tells e same) b h = (tt, names_saved s b h)
-  names_move {t} s (leaves e f) b h = (notes_then P (all_ends s) t (only_ends (unroll_to 0 s).ended (mark_of s)), names_drop s.keys h)
+  names_move s {t} (leaves e f) b h = (notes_then P (all_ends s) t (only_ends (unroll_to 0 s).ended (mark_of s)), names_drop s.keys h)
   names_move s (opens sequence e same) b h = (tt, names_saved s b h)
-  names_move {t} s (closes sequence m e c) b h = (notes_then P (pair_end m s) t (only_if (implicit_open s.levels) FlowMappingEnd m), names_drop s.keys h)
-  names_move {t} s (parts m e) b h = (notes_then P (pair_end m s) t (only_if (implicit_open s.levels) FlowMappingEnd m), names_drop s.keys h)
-  names_move {t} s (begins {pair = p} {r = r} sequence m e k) b h =
+  names_move s {t} (closes sequence m e c) b h = (notes_then P (pair_end m s) t (only_if (implicit_open s.levels) FlowMappingEnd m), names_drop s.keys h)
+  names_move s {t} (parts m e) b h = (notes_then P (pair_end m s) t (only_if (implicit_open s.levels) FlowMappingEnd m), names_drop s.keys h)
+  names_move s {t} (begins {pair = p} {r = r} sequence m e k) b h =
       let fs = empty_if p FlowMappingStart m in
       let gs = empty_if r.starts (block_start sequence) m in
       (notes_then P (fs ++ gs) t (only_append fs gs (only_if p FlowMappingStart m) (only_if r.starts (block_start sequence) m)), names_drop s.keys h)

@@ -15,7 +15,7 @@ use Rattle.yaml_text.specs.Decode.{decode}
 use Rattle.yaml_text.specs.PlaceLaws.{left}
 use Rattle.yaml_text.specs.Test.{by_test, true_false}
 use Rattle.yaml_text.specs.All.{all_got}
-use Rattle.yaml_lexeme.specs.Token.{StreamStart, Token, empty_token}
+use Rattle.yaml_lexeme.specs.Token.{BlockMappingStart, FlowMappingStart, Key, StreamStart, Token, empty_token}
 use Rattle.yaml_scan.specs.declared.Candidate.{Candidate}
 use Rattle.yaml_scan.specs.declared.Candidate.TheVariants.{Absent, Possible}
 use Rattle.yaml_scan.specs.declared.Limits.{Limits}
@@ -214,9 +214,9 @@ module _ (ks : List Candidate) (allowed : Bool) (line c : ℕ) where
       → (p' : Token) × (q' : Token) × Back n p' q' ys × Orderly c p' q' (x ∷ ts)
   unfolding part in_pair
   over_note n p q x ys ts no_note o b = (p, q, b, o)
-  over_note n p q x ys ts key o b = (_, _, back_other n _ _ ys refl, o.1)
-  over_note n p q x ys ts pair o b = (_, _, back_other n _ _ ys refl, o.1.1)
-  over_note n p q x ys ts block o b = (_, _, back_other n _ _ ys refl, o.1.1)
+  over_note {m} n p q x ys ts key o b = (q, empty_token Key m, back_other n q (empty_token Key m) ys refl, o.1)
+  over_note {m} n p q x ys ts pair o b = (empty_token FlowMappingStart m, empty_token Key m, back_other n (empty_token FlowMappingStart m) (empty_token Key m) ys refl, o.1.1)
+  over_note {m} n p q x ys ts block o b = (empty_token BlockMappingStart m, empty_token Key m, back_other n (empty_token BlockMappingStart m) (empty_token Key m) ys refl, o.1.1)
 
   -- token n is a possible key, and x; ys have become zs
 

@@ -110,19 +110,19 @@ goes_in_none true false m = (pair_none m, (key_none m, tt))
 goes_in_none false true m = (block_none m, (key_none m, tt))
 goes_in_none false false m = (key_none m, tt)
 
-move_said : {t : Token} {q : Place} {es : List Event} {i : Indents} {ks : List Candidate} {ls : List Level} (s : State) → Move s t q es i ks ls → NoneSaid es
-move_said {t} s (tells e same) = (neither_ends t e, tt)
-move_said {t} s (leaves e f) = said_append (all_ends s) (put t ∷ []) (blocks_said (unroll_to 0 s).ended (mark_of s)) (neither_ends t e, tt)
-move_said {t} s (opens sequence e same) = (by_role t (starts (bracket sequence)) e (λ f. let z : ◌≡◌ {A = ℕ} 0 1 = cc in omega arith), tt)
-move_said {t} s (closes sequence m e c) =
+move_said : (s : State) {t : Token} {q : Place} {es : List Event} {i : Indents} {ks : List Candidate} {ls : List Level} → Move s t q es i ks ls → NoneSaid es
+move_said s {t} (tells e same) = (neither_ends t e, tt)
+move_said s {t} (leaves e f) = said_append (all_ends s) (put t ∷ []) (blocks_said (unroll_to 0 s).ended (mark_of s)) (neither_ends t e, tt)
+move_said s {t} (opens sequence e same) = (by_role t (starts (bracket sequence)) e (λ f. let z : ◌≡◌ {A = ℕ} 0 1 = cc in omega arith), tt)
+move_said s {t} (closes sequence m e c) =
     said_append (pair_end m s) (put t ∷ []) (pair_said m s) (by_role t (ends (bracket sequence)) e (λ f. let z : ◌≡◌ {A = ℕ} 0 1 = cc in omega arith), tt)
-move_said {t} s (parts m e) = said_append (pair_end m s) (put t ∷ []) (pair_said m s) (neither_ends t e, tt)
-move_said {t} s (begins {pair = p} {r = r} sequence m e k) =
+move_said s {t} (parts m e) = said_append (pair_end m s) (put t ∷ []) (pair_said m s) (neither_ends t e, tt)
+move_said s {t} (begins {pair = p} {r = r} sequence m e k) =
     let fs = empty_if p FlowMappingStart m in
     let gs = empty_if r.starts (block_start sequence) m in
     let h = if_said p FlowMappingStart m (λ f. let z : ◌≡◌ {A = ℕ} 0 1 = cc in omega arith) in
     said_append (fs ++ gs) (put t ∷ []) (said_append fs gs h (start_said r.starts sequence m)) (neither_ends t e, tt)
-move_said {t} s (uses {pair = p} {m = m} {r = r} e k c) = (goes_in_none p r.starts m, (neither_ends t e, tt))
+move_said s {t} (uses {pair = p} {m = m} {r = r} e k c) = (goes_in_none p r.starts m, (neither_ends t e, tt))
 
 abbrev Lasts : News → Type 0
 Lasts (goes_on es t) = NoneSaid es

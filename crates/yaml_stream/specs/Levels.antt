@@ -126,7 +126,7 @@ gap_same (gapped f spares (inside e)) h = (refl, refl, h)
 gap_same {s} (gapped f spares (lapses e)) h = (refl, refl, omega (arith, length-drop 1 s.keys))
 gap_same {s} (gapped f spares (stays e k)) h = (refl, refl, omega (arith, length-drop 1 s.keys))
 
-on_move : {t : Token} {q : Place} {es : List Event} {i : Indents} {ks : List Candidate} {ls : List Level} (n l : ℕ) (s : State) → Move s t q es i ks ls
+on_move : (n l : ℕ) (s : State) {t : Token} {q : Place} {es : List Event} {i : Indents} {ks : List Candidate} {ls : List Level} → Move s t q es i ks ls
     → Levelled s.keys s.levels → (n ≡ s.count → l ≡ length s.levels) → OnLevel n l s.keys → OnLevel n l ks
 on_move n l s (tells e same) v c h = on_saved n l s v c h
 on_move n l s (leaves e f) v c h = on_absent n l (drop 1 s.keys) (on_drop n l s.keys h)

@@ -79,14 +79,14 @@ key_note false true m h = block
 key_note true false m h = pair
 key_note true true m h = absurd (omega arith)
 
-move_notes : {t : Token} {q : Place} {es : List Event} {i : Indents} {ks : List Candidate} {ls : List Level} (s : State) → Move s t q es i ks ls → Notes es
+move_notes : (s : State) {t : Token} {q : Place} {es : List Event} {i : Indents} {ks : List Candidate} {ls : List Level} → Move s t q es i ks ls → Notes es
 unfolding Notes
 move_notes s (tells e same) = tt
-move_notes {t} s (leaves e f) = then_notes (all_ends s) t (only_ends (unroll_to 0 s).ended (mark_of s))
+move_notes s {t} (leaves e f) = then_notes (all_ends s) t (only_ends (unroll_to 0 s).ended (mark_of s))
 move_notes s (opens sequence e same) = tt
-move_notes {t} s (closes sequence m e c) = then_notes (pair_end m s) t (only_if (implicit_open s.levels) FlowMappingEnd m)
-move_notes {t} s (parts m e) = then_notes (pair_end m s) t (only_if (implicit_open s.levels) FlowMappingEnd m)
-move_notes {t} s (begins {pair = p} {r = r} sequence m e k) =
+move_notes s {t} (closes sequence m e c) = then_notes (pair_end m s) t (only_if (implicit_open s.levels) FlowMappingEnd m)
+move_notes s {t} (parts m e) = then_notes (pair_end m s) t (only_if (implicit_open s.levels) FlowMappingEnd m)
+move_notes s {t} (begins {pair = p} {r = r} sequence m e k) =
     let fs = empty_if p FlowMappingStart m in
     let gs = empty_if r.starts (block_start sequence) m in
     then_notes (fs ++ gs) t (only_append fs gs (only_if p FlowMappingStart m) (only_if r.starts (block_start sequence) m))

@@ -53,14 +53,14 @@ goes_in_bare true false m = refl
 goes_in_bare false true m = refl
 goes_in_bare false false m = refl
 
-move_bare : {t : Token} {q : Place} {es : List Event} {i : Indents} {ks : List Candidate} {ls : List Level} (s : State) → Move s t q es i ks ls → Bare es
+move_bare : (s : State) {t : Token} {q : Place} {es : List Event} {i : Indents} {ks : List Candidate} {ls : List Level} → Move s t q es i ks ls → Bare es
 unfolding Bare
 move_bare s (tells e same) = tt
-move_bare {t} s (leaves e f) = then_bare (all_ends s) t (only_ends (unroll_to 0 s).ended (mark_of s))
+move_bare s {t} (leaves e f) = then_bare (all_ends s) t (only_ends (unroll_to 0 s).ended (mark_of s))
 move_bare s (opens sequence e same) = tt
-move_bare {t} s (closes sequence m e c) = then_bare (pair_end m s) t (only_if (implicit_open s.levels) FlowMappingEnd m)
-move_bare {t} s (parts m e) = then_bare (pair_end m s) t (only_if (implicit_open s.levels) FlowMappingEnd m)
-move_bare {t} s (begins {pair = p} {r = r} sequence m e k) =
+move_bare s {t} (closes sequence m e c) = then_bare (pair_end m s) t (only_if (implicit_open s.levels) FlowMappingEnd m)
+move_bare s {t} (parts m e) = then_bare (pair_end m s) t (only_if (implicit_open s.levels) FlowMappingEnd m)
+move_bare s {t} (begins {pair = p} {r = r} sequence m e k) =
     let fs = empty_if p FlowMappingStart m in
     let gs = empty_if r.starts (block_start sequence) m in
     then_bare (fs ++ gs) t (only_append fs gs (only_if p FlowMappingStart m) (only_if r.starts (block_start sequence) m))

@@ -131,7 +131,7 @@ begins_spare {pair = pair} {r = r} {ls = ls} {ks = ks} room count index u b h = 
     by_levels [] e = let k = rw e at b.enters in inr (quiet ks ls count index k.0)
     by_levels (l ∷ ms) e = inside (b.rolls.flows (rw e)) (λ f. let z : ◌≡◌ {A = ℕ} 0 1 = cc in omega arith) h
 
-move_spare : {t : Token} {q : Place} {es : List Event} {i : Indents} {ks : List Candidate} {ls : List Level} (room count index : ℕ) (u : State) → Move u t q es i ks ls
+move_spare : (room count index : ℕ) (u : State) {t : Token} {q : Place} {es : List Event} {i : Indents} {ks : List Candidate} {ls : List Level} → Move u t q es i ks ls
     → count ≡ u.count + puts es → (mark_of u).index < index → ((ls ≡ [] → ⊥) → u.levels ≡ [] → suc (blocks_of i) ≤ room) → Ready room index u → SpareAt room i ks ls count index
 unfolding puts on_level closes_level
 move_spare room count index u (tells e same) c i o (inl h) = inl (omega (arith, same.blocks))

@@ -47,18 +47,18 @@ use Rattle.yaml_stream.specs.Spare.{Brief, Fresh, GapTo, Near, Spare, step_spare
 abbrev Uses : State → List Event → Type 0
 Uses u es = (total es ≤ 3) × (required : Bool) × (n : ℕ) × (m : Mark) × (top_key u.keys ≡ Possible required n m)
 
-move_adds : {t : Token} {q : Place} {es : List Event} {i : Indents} {ks : List Candidate} {ls : List Level} (u : State) → Move u t q es i ks ls
+move_adds : (u : State) {t : Token} {q : Place} {es : List Event} {i : Indents} {ks : List Candidate} {ls : List Level} → Move u t q es i ks ls
     → (total es ≤ blocks_of u.indents + 2) ⊎ Uses u es
 unfolding total
 move_adds u (tells e same) = inl (omega arith)
-move_adds {t} u (leaves e f) =
+move_adds u {t} (leaves e f) =
     inl (omega (arith, total_then (all_ends u) t, total_ends (unroll_to 0 u).ended (mark_of u), unroll_blocks 0 u.indents.indent u.indents.entries))
 move_adds u (opens sequence e same) = inl (omega arith)
-move_adds {t} u (closes sequence m e c) =
+move_adds u {t} (closes sequence m e c) =
     inl (omega (arith, total_then (pair_end m u) t, total_if (implicit_open u.levels) FlowMappingEnd m, one_most (implicit_open u.levels)))
-move_adds {t} u (parts m e) =
+move_adds u {t} (parts m e) =
     inl (omega (arith, total_then (pair_end m u) t, total_if (implicit_open u.levels) FlowMappingEnd m, one_most (implicit_open u.levels)))
-move_adds {t} u (begins {pair = p} {r = r} sequence m e b) =
+move_adds u {t} (begins {pair = p} {r = r} sequence m e b) =
     let fs = empty_if p FlowMappingStart m in
     let gs = empty_if r.starts (block_start sequence) m in
     inl (omega (arith, total_then (fs ++ gs) t, total_append fs gs, total_if p FlowMappingStart m, total_if r.starts (block_start sequence) m, not_both b))
@@ -171,14 +171,14 @@ only_thin (put_before n ts ∷ es) h = absurd h
 then_thin : (es : List Event) (t : Token) → OnlyPuts es → NotesThin (es ++ (put t ∷ []))
 then_thin es t h = only_thin (es ++ (put t ∷ [])) (only_append es (put t ∷ []) h (only_one t))
 
-move_thin : {t : Token} {q : Place} {es : List Event} {i : Indents} {ks : List Candidate} {ls : List Level} (s : State) → Move s t q es i ks ls → NotesThin es
+move_thin : (s : State) {t : Token} {q : Place} {es : List Event} {i : Indents} {ks : List Candidate} {ls : List Level} → Move s t q es i ks ls → NotesThin es
 unfolding NotesThin
 move_thin s (tells e same) = tt
-move_thin {t} s (leaves e f) = then_thin (all_ends s) t (only_ends (unroll_to 0 s).ended (mark_of s))
+move_thin s {t} (leaves e f) = then_thin (all_ends s) t (only_ends (unroll_to 0 s).ended (mark_of s))
 move_thin s (opens sequence e same) = tt
-move_thin {t} s (closes sequence m e c) = then_thin (pair_end m s) t (only_if (implicit_open s.levels) FlowMappingEnd m)
-move_thin {t} s (parts m e) = then_thin (pair_end m s) t (only_if (implicit_open s.levels) FlowMappingEnd m)
-move_thin {t} s (begins {pair = p} {r = r} sequence m e k) =
+move_thin s {t} (closes sequence m e c) = then_thin (pair_end m s) t (only_if (implicit_open s.levels) FlowMappingEnd m)
+move_thin s {t} (parts m e) = then_thin (pair_end m s) t (only_if (implicit_open s.levels) FlowMappingEnd m)
+move_thin s {t} (begins {pair = p} {r = r} sequence m e k) =
     let fs = empty_if p FlowMappingStart m in
     let gs = empty_if r.starts (block_start sequence) m in
     then_thin (fs ++ gs) t (only_append fs gs (only_if p FlowMappingStart m) (only_if r.starts (block_start sequence) m))

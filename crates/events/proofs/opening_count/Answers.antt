@@ -6,4 +6,4 @@ pub returns-in-Nothing : goal.returns-in-Nothing
 returns-in-Nothing c = rw c.in-Nothing.is
 
 pub returns-in_default : goal.returns-in_default
-returns-in_default c = one_token c.args.o c.in_default.in_default-own.keys2
+returns-in_default c = one_token c.args.o c.in_default.not-Nothing

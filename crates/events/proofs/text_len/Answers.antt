@@ -42,4 +42,6 @@ returns-in-ReservedDirective c = rw c.in-ReservedDirective.is
 
 pub returns-in_default : goal.returns-in_default
 unfolding text_size
-returns-in_default c = no_text c.args.k c.in_default.in_default-own.keys7
+returns-in_default c =
+    let d = c.in_default in
+    no_text c.args.k d.not-TagDirective d.not-Alias d.not-Anchor d.not-Tag d.not-Scalar d.not-ReservedDirective

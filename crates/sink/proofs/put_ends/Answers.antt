@@ -15,7 +15,7 @@ pub loop-i-preserved : goal.loop-i-preserved
 loop-i-preserved c =
     let l = c.loop-i in
     let p = c.put_empty_token-i in (
-      p.auto.0 ∙ l.invariant.0,
+      p.auto.words ∙ l.invariant.0,
       omega (arith, c.loop-i-test.true, p.ensures.0),
       l.invariant.2 ∙ ends_more l.words _ _ l.i _ _ c.loop-i-test.true p.ensures.0 p.ensures.1,
     )
