@@ -18,16 +18,16 @@ from stream_check import STREAM
 JOB = {**STREAM, "yaml_job": " ".join(STREAM)}
 HEAD = """-- Vectors, as equations that are computed.
 use Prim.Native.Nat.{ℕ}
-use mathlib.Core.List.{List, [], _∷_}
-use mathlib.Core.Path.{_≡_, refl}
-use Rattle·yaml_text.specs.declared.Mark.{Mark}
-use Rattle·yaml_scan.specs.Scan.{standard}
-use Rattle·yaml_scan.specs.Open.{all-open}
-use Rattle·yaml_stream.specs.Open.{stream-open}
-use Rattle·yaml_job.specs.declared.Closing.the-variants.{Done, NotDone}
-use Rattle·yaml_job.specs.declared.JobAnswer.the-variants.{Closed}
-use Rattle·yaml_job.specs.Job.{follow, job, talk}
-use Rattle·yaml_job.specs.Open.{job-open}
+use mathlib.Core.List.{List, [], ◌∷◌}
+use mathlib.Core.Path.{◌≡◌, refl}
+use Rattle.yaml_text.specs.declared.Mark.{Mark}
+use Rattle.yaml_scan.specs.Scan.{standard}
+use Rattle.yaml_scan.specs.Open.{all_open}
+use Rattle.yaml_stream.specs.Open.{stream_open}
+use Rattle.yaml_job.specs.declared.Closing.TheVariants.{Done, NotDone}
+use Rattle.yaml_job.specs.declared.JobAnswer.TheVariants.{Closed}
+use Rattle.yaml_job.specs.Job.{follow, job, talk}
+use Rattle.yaml_job.specs.Open.{job_open}
 """
 
 
@@ -43,7 +43,7 @@ def equation(name, front, text, said):
         record = f"NotDone {number} (record {{ index = {index}; line = {line}; col = {col} }}) {count}"
     left = f"follow standard {room} {len(seeds) + 1} (job standard {numbers(text)} {words})"
     right = f"talk {numbers(f'({v}, {n})' for v, n in seeds)} (Closed ({record}))"
-    return f"{name} : {left} ≡ {right}\nunfolding all-open stream-open job-open\n{name} = refl\n"
+    return f"{name} : {left} ≡ {right}\nunfolding all_open stream_open job_open\n{name} = refl\n"
 
 
 if __name__ == "__main__":

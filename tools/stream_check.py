@@ -16,15 +16,15 @@ from definition_check import CRATES, check, numbers
 STREAM = {**CRATES, "theorems": " ".join(CRATES), "yaml_stream": " ".join(["theorems", *CRATES])}
 HEAD = """-- Vectors, as equations that are computed.
 use Prim.Native.Nat.{ℕ}
-use mathlib.Core.List.{List, [], _∷_}
-use mathlib.Core.Path.{_≡_, refl}
-use Rattle·yaml_text.specs.declared.Mark.{Mark}
-use Rattle·yaml_lexeme.specs.Token.{texts}
-use Rattle·yaml_lexeme.specs.Record.{records}
-use Rattle·yaml_scan.specs.Scan.{standard}
-use Rattle·yaml_scan.specs.Open.{all-open}
-use Rattle·yaml_stream.specs.Stream.{Heard, Next, ended, fresh, hear, refusal}
-use Rattle·yaml_stream.specs.Open.{stream-open}
+use mathlib.Core.List.{List, [], ◌∷◌}
+use mathlib.Core.Path.{◌≡◌, refl}
+use Rattle.yaml_text.specs.declared.Mark.{Mark}
+use Rattle.yaml_lexeme.specs.Token.{texts}
+use Rattle.yaml_lexeme.specs.Record.{records}
+use Rattle.yaml_scan.specs.Scan.{standard}
+use Rattle.yaml_scan.specs.Open.{all_open}
+use Rattle.yaml_stream.specs.Stream.{Heard, Next, ended, fresh, hear, refusal}
+use Rattle.yaml_stream.specs.Open.{stream_open}
 
 record Shown : Type 0 where
   words : List ℕ
@@ -32,7 +32,7 @@ record Shown : Type 0 where
   last : Next
 
 abbrev shown : Heard → Shown
-shown h = record { words = records 0 (h .tokens); bytes = texts (h .tokens); last = h .last }
+shown h = record { words = records 0 h.tokens; bytes = texts h.tokens; last = h.last }
 """
 
 
@@ -50,7 +50,7 @@ def equation(name, front, text, said):
     flat = [w for r in records.split(";") for w in r.split()]
     left = f"shown (hear standard {room} {int(given) + 1} (fresh standard {numbers(text)} {words}))"
     right = f"record {{ words = {numbers(flat)}; bytes = {numbers(bytes.fromhex(decoded))}; last = {answer} }}"
-    return f"{name} : {left} ≡ {right}\nunfolding all-open stream-open\n{name} = refl\n"
+    return f"{name} : {left} ≡ {right}\nunfolding all_open stream_open\n{name} = refl\n"
 
 
 if __name__ == "__main__":

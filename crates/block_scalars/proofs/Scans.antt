@@ -23,7 +23,6 @@ use Rattle.chars.specs.Places.{moves_along}
 use Rattle.chars.specs.Reach.{reach_one}
 use Rattle.chars.specs.View.{Moves, past, view}
 use Rattle.reading.specs.declared.Reading.{Reading}
-use Rattle.reading.specs.declared.Reading.TheVariants as reading
 use Rattle.reading.specs.Reading.{Indicated, Lexes, first_at}
 use Rattle.block_scalars.specs.declared.Block.{Block}
 use Rattle.block_content.specs.declared.Layout.{Layout}

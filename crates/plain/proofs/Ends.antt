@@ -2,15 +2,12 @@
 use Prim.Native.Nat.{◌%◌, ◌*◌, ◌+◌, ◌<◌, ◌≤◌, suc, ℕ}
 use mathlib.Core.Bool.{Bool, ◌&&◌, ◌||◌, and-false, and-true, false, or-false, or-true, true}
 use mathlib.Core.List.{List}
-use mathlib.Core.Logic.{◌⊎◌, inl, inr}
 use mathlib.Core.Path.{◌∙◌, ◌≡◌, refl, sym}
 use native.Mathlib.Omega.{arith}
 use lib.Dec.{eqb, leb, ltb}
 use lib.ListN.{drop, get_or, length}
 use lib.Seq.{drop-cons}
 use borrow.Author.Tests.{le-leb, le-ltb, leb-true, lt-ltb, ltb-false, ltb-true, ne_eqb}
-use denote.Enum.Declared.{tag_of}
-use Rattle.yaml_text.specs.contracts.Decoded.{the_type}
 use Rattle.yaml_text.specs.declared.Decoded.{Decoded}
 use Rattle.yaml_text.specs.declared.Decoded.TheVariants.{Char, End, Ill}
 use Rattle.yaml_text.specs.declared.Mark.{Mark}
@@ -144,11 +141,10 @@ pub high_stops : (flow blank : Bool) (s : List ℕ) (at c n : ℕ) → first (dr
 unfolding taken
 high_stops flow blank s at c n f g = rw (f, bom_stops flow blank c (peek (chars (drop (at + n) s)) 0) g)
 
-pub none_length : (flow blank : Bool) (s : List ℕ) (at : ℕ) (d : Decoded) → d ≡ first (drop at s) → (tag_of the_type d ≡ 1) ⊎ (tag_of the_type d ≡ 2)
+pub none_length : (flow blank : Bool) (s : List ℕ) (at : ℕ) (d : Decoded) → d ≡ first (drop at s) → ((c n : ℕ) → d ≡ Char c n → ⊥)
     → 0 ≡ text_length flow blank s at
 unfolding taken
-none_length flow blank s at (Char c n) e (inl k) = absurd (omega arith)
-none_length flow blank s at (Char c n) e (inr k) = absurd (omega arith)
+none_length flow blank s at (Char c n) e k = absurd (k c n refl)
 none_length flow blank s at Ill e k = rw (← e)
 none_length flow blank s at End e k = rw (← e)
 

@@ -1,5 +1,5 @@
 -- The words of the definition's slots: the record of each slot's token, its texts behind the bytes used so far, with its note.
-use Rattle.std.specs.Prelude.{◌%◌, ◌*◌, ◌+◌, ◌-◌, ◌<◌, ◌≤◌, suc, zero, ℕ, List, [], ◌++◌, ◌∷◌, map, ◌≡◌, refl, eqb, drop, length, set}
+use Rattle.std.specs.Prelude.{◌%◌, ◌*◌, ◌+◌, ◌<◌, ◌≤◌, suc, zero, ℕ, List, [], ◌++◌, ◌∷◌, map, ◌≡◌, refl, eqb, drop, length, set}
 use Rattle.std.proofs.Common.{append_assoc, append-nil, ◌∙◌, sym, arith, length-append, length-drop, drop-drop, get_or-append-add, take_at}
 use Rattle.std.proofs.Math.Seq.{drop-append-add}
 use Rattle.std.proofs.lemmas.List.Edits.{sets-eq}

@@ -243,9 +243,12 @@ step_keys limits s ys h = all_weak by_news (all_both (step_leaves limits s) (ste
     by_news (ends_with es) g = tt
 
 -- every state that a run reaches
-pub reached_keys : {limits : Limits} (cs : List ℕ) {es : List Event} {t : State} → StepsReach limits (begin cs) es t
+pub reached_keys : {limits : Limits} {es : List Event} {t : State} (cs : List ℕ) → StepsReach limits (begin cs) es t
     → KeysSoFar t (slots (slot (empty_token StreamStart origin) [] ∷ []) es)
 unfolding slots possible part is_scalar
-reached_keys cs here = record { falls = tt; counted = refl; still = (λ p. true_false (sym p), (λ e. true_false (sym e), λ e. true_false (sym (ap is_scalar e))), tt) }
-reached_keys {limits} cs (then_step {es = es} {fs = fs} {t = t} r e) =
-    rw (slots_append (slot (empty_token StreamStart origin) [] ∷ []) es fs) (all_got (step_keys limits t _ (reached_keys cs r)) e)
+reached_keys {limits} cs r = by_steps r
+  where
+    by_steps : {es : List Event} {t : State} → StepsReach limits (begin cs) es t → KeysSoFar t (slots (slot (empty_token StreamStart origin) [] ∷ []) es)
+    by_steps here = record { falls = tt; counted = refl; still = (λ p. true_false (sym p), (λ e. true_false (sym e), λ e. true_false (sym (ap is_scalar e))), tt) }
+    by_steps (then_step {es = es} {fs = fs} {t = t} r e) =
+        rw (slots_append (slot (empty_token StreamStart origin) [] ∷ []) es fs) (all_got (step_keys limits t _ (by_steps r)) e)

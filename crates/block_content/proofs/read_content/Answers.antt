@@ -1,8 +1,6 @@
 -- What is left to write from here on gives the whole content.
-use Prim.Native.Nat.{◌-◌}
 use native.Mathlib.Omega.{arith}
-use lib.ListN.{length}
-use Rattle.block_content.proofs.Contents.{Going, going_done, going_more, going_start}
+use Rattle.block_content.proofs.Contents.{going_done, going_more, going_start}
 use Rattle.block_content.proofs.read_content.Goals as goal
 
 pub loop-out-init : goal.loop-out-init

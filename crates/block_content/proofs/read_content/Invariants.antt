@@ -1,7 +1,6 @@
 use Prim.Native.Nat.{◌-◌}
-use native.Mathlib.Omega.{arith}
 use lib.ListN.{length}
-use Rattle.block_content.proofs.Contents.{Going, going_done, going_more, going_start}
+use Rattle.block_content.proofs.Contents.{Going}
 use Rattle.block_content.proofs.read_content.Given as goal
 
 abbrev pub invariant-loop-out : goal.invariant-loop-out

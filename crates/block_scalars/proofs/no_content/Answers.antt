@@ -4,8 +4,7 @@ use borrow.Author.Rules.{rules}
 use Rattle.block_scalars.proofs.no_content.Goals as goal
 
 pub returns-then-n-eq0 : goal.returns-then-n-eq0
-returns-then-n-eq0 c =
-    (
+returns-then-n-eq0 c = (
   rw c.one_if.ensures.0 (none_part c.args.n c.args.part c.in-Keep.is c.if-n-eq0.true),
   search rules,
 )
@@ -17,8 +16,7 @@ pub returns-in-Clip : goal.returns-in-Clip
 returns-in-Clip c = (none_clip c.args.n c.args.part c.in-Clip.is, search rules)
 
 pub returns-else-n-eq0 : goal.returns-else-n-eq0
-returns-else-n-eq0 c =
-    (
+returns-else-n-eq0 c = (
   none_keep c.args.n c.args.part c.in-Keep.is c.if-n-eq0.false,
   search rules,
 )

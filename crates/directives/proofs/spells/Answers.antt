@@ -1,7 +1,5 @@
 -- What is left to compare from i on tells the whole.
-use Prim.Native.Nat.{◌-◌}
-use lib.ListN.{length}
-use Rattle.directives.proofs.Names.{Spelling, spelling_done, spelling_long, spelling_more, spelling_no, spelling_start}
+use Rattle.directives.proofs.Names.{spelling_done, spelling_long, spelling_more, spelling_no, spelling_start}
 use borrow.Author.Rules.{rules}
 use Rattle.directives.proofs.spells.Goals as goal
 

@@ -1,7 +1,6 @@
 use Prim.Native.Nat.{◌-◌}
 use lib.ListN.{length}
-use Rattle.directives.proofs.Names.{Spelling, spelling_done, spelling_long, spelling_more, spelling_no, spelling_start}
-use borrow.Author.Rules.{rules}
+use Rattle.directives.proofs.Names.{Spelling}
 use Rattle.directives.proofs.spells.Given as goal
 
 abbrev pub invariant-loop-i : goal.invariant-loop-i

@@ -1,17 +1,12 @@
 -- The invariant: only ordinary bytes were passed.
-use Prim.Native.Nat.{◌-◌}
 use mathlib.Core.Path.{◌∙◌, sym}
 use native.Mathlib.Omega.{arith}
-use lib.ListN.{length}
-use borrow.Author.Tests.{not-true}
-use Rattle.chars.specs.Blocks.{ordinary}
-use Rattle.chars.specs.Each.{SomeBlocks, blocks_end, blocks_more, blocks_none, blocks_out, each_none}
+use Rattle.chars.specs.Each.{blocks_end, blocks_more, blocks_none, blocks_out, each_none}
 use Rattle.plain.proofs.past_blocks.Goals as goal
 
 pub returns-then-not-is_ordinary : goal.returns-then-not-is_ordinary
 returns-then-not-is_ordinary c =
-    let o = c.is_ordinary in
-    blocks_none c.requires (rw c.byte.ensures at (sym o.ensures ∙ not-true o.result c.if-not-is_ordinary.true-raw))
+    blocks_none c.requires (rw c.byte.ensures at (sym c.is_ordinary.ensures ∙ c.if-not-is_ordinary.true))
 
 pub loop-at-init : goal.loop-at-init
 loop-at-init c = (each_none c.requires, omega arith)

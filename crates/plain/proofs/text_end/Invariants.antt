@@ -1,8 +1,6 @@
 use Prim.Native.Nat.{◌-◌}
-use mathlib.Core.Path.{◌∙◌, sym}
-use native.Mathlib.Omega.{arith}
 use lib.ListN.{length}
-use Rattle.plain.proofs.On.{On, on_blank, on_done, on_ordinary, on_other, on_run, on_start}
+use Rattle.plain.proofs.On.{On}
 use Rattle.plain.proofs.text_end.Given as goal
 
 abbrev pub invariant-loop-end : goal.invariant-loop-end

@@ -13,7 +13,7 @@ pub returns-then-is_usual : goal.returns-then-is_usual
 returns-then-is_usual c = usual_goes _ _ _ _ _ c.requires.1 (sym c.is_usual.ensures ∙ c.if-is_usual.true)
 
 pub returns-in_default : goal.returns-in_default
-returns-in_default c = none_length _ _ _ _ _ c.wide_at-d.ensures c.in_default.in_default-own.keys2
+returns-in_default c = none_length _ _ _ _ _ c.wide_at-d.ensures c.in_default.not-Char
 
 pub returns-then-is_bom : goal.returns-then-is_bom
 returns-then-is_bom c = high_stops _ _ _ _ _ _ (sym c.wide_at-d.ensures ∙ c.in-Char.is) (sym c.is_bom.ensures ∙ c.if-is_bom.true)

@@ -16,7 +16,7 @@ loop-i-preserved c =
     let l = c.loop-i in
     let a = c.args in
     let ns = a.numbers.now in
-    let h : get_or ns l.i 0 < 2 ^ 32 = omega (arith, c.shared_slice_known-in-loop-i-1.given l.i) in
+    let h : get_or ns l.i 0 < 2 ^ 32 = omega (arith, c.type_inv.numbers l.i) in
     let w = c.put_number-next.ensures in
     let f = number_few _ _ _ _ _ _ h w in
     let m = line_more a.between a.end ns l.i _ (omega arith) c.separator.ensures in
@@ -29,4 +29,7 @@ pub returns : goal.returns
 returns c =
     let l = c.loop-i in
     let a = c.args in
-    (writing_ends (rw (line_ends a.between a.end a.numbers.now l.i c.loop-i-test.false) at l.invariant.2), omega arith)
+    record {
+      written = writing_ends (rw (line_ends a.between a.end a.numbers.now l.i c.loop-i-test.false) at l.invariant.2);
+      upper_bound = omega arith;
+    }

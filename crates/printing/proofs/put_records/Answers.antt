@@ -25,7 +25,7 @@ loop-n-preserved c =
     let a = c.args in
     let p = c.put_numbers-next in
     let e = ten _ _ c.listed_words-numbers.ensures in
-    let w = p.ensures.0 in
+    let w = p.ensures.written in
     let m = rows_more a.t l.n a.words.now c.loop-n-test.true in
     (omega arith, omega arith, writing_more l.invariant.2 (rw c.listed_words-numbers.ensures m) w)
 
@@ -36,4 +36,7 @@ pub returns : goal.returns
 returns c =
     let l = c.loop-n in
     let a = c.args in
-    (writing_ends (rw (rows_end a.t l.n a.words.now c.loop-n-test.false) at l.invariant.2), omega arith)
+    record {
+      written = writing_ends (rw (rows_end a.t l.n a.words.now c.loop-n-test.false) at l.invariant.2);
+      upper_bound = omega arith;
+    }

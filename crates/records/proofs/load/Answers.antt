@@ -1,8 +1,5 @@
 -- The words read so far are the first of those that stand at the place, and after the last turn they are all of them.
-use Prim.Native.Nat.{◌-◌}
-use lib.ListN.{drop, take}
-use Rattle.yaml_lexeme.specs.Record.{record_words}
-use Rattle.records.proofs.Reading.{Loading, load_done, load_more, load_start}
+use Rattle.records.proofs.Reading.{load_done, load_more, load_start}
 use Rattle.records.proofs.load.Goals as goal
 
 pub loop-i-init : goal.loop-i-init

@@ -1,7 +1,7 @@
 use Prim.Native.Nat.{◌-◌}
 use lib.ListN.{drop, take}
 use Rattle.yaml_lexeme.specs.Record.{record_words}
-use Rattle.records.proofs.Reading.{Loading, load_done, load_more, load_start}
+use Rattle.records.proofs.Reading.{Loading}
 use Rattle.records.proofs.load.Given as goal
 
 abbrev pub invariant-loop-i : goal.invariant-loop-i

@@ -1,9 +1,7 @@
 -- What is left to be stored gives the whole: one turn is one step of storing word by word.
-use Prim.Native.Nat.{◌+◌, ◌-◌}
-use mathlib.Core.Path.{◌∙◌, ◌≡◌, refl, sym}
+use mathlib.Core.Path.{◌∙◌, refl, sym}
 use native.Mathlib.Nat.{add-zero}
-use lib.ListN.{drop, drop_of_length-le, length, length-set}
-use lib.Seq.{sets}
+use lib.ListN.{drop_of_length-le, length-set}
 use Rattle.rooms.specs.Room.{sets_more}
 use Rattle.records.proofs.store.Goals as goal
 

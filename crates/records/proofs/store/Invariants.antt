@@ -1,9 +1,7 @@
 use Prim.Native.Nat.{◌+◌, ◌-◌}
-use mathlib.Core.Path.{◌∙◌, ◌≡◌, refl, sym}
-use native.Mathlib.Nat.{add-zero}
-use lib.ListN.{drop, drop_of_length-le, length, length-set}
+use mathlib.Core.Path.{◌≡◌}
+use lib.ListN.{drop, length}
 use lib.Seq.{sets}
-use Rattle.rooms.specs.Room.{sets_more}
 use Rattle.records.proofs.store.Given as goal
 
 abbrev pub invariant-loop-i : goal.invariant-loop-i

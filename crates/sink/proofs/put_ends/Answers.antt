@@ -1,10 +1,6 @@
 -- BlockEnds are stored one by one: those that are left give the whole.
-use Prim.Native.Nat.{◌-◌, ◌≤◌}
-use mathlib.Core.Path.{◌∙◌, ◌≡◌, refl, sym}
+use mathlib.Core.Path.{◌∙◌, refl, sym}
 use native.Mathlib.Omega.{arith}
-use lib.ListN.{length}
-use Rattle.sink.specs.StepTokens.{end_tokens}
-use Rattle.sink.specs.Store.{put_list}
 use Rattle.sink.proofs.Storing.{ends_more, ends_none, ends_start}
 use Rattle.sink.proofs.put_ends.Goals as goal
 
@@ -15,7 +11,7 @@ pub loop-i-preserved : goal.loop-i-preserved
 loop-i-preserved c =
     let l = c.loop-i in
     let p = c.put_empty_token-i in (
-      p.auto.0 ∙ l.invariant.0,
+      p.auto.words ∙ l.invariant.0,
       omega (arith, c.loop-i-test.true, p.ensures.0),
       l.invariant.2 ∙ ends_more l.words _ _ l.i _ _ c.loop-i-test.true p.ensures.0 p.ensures.1,
     )

@@ -1,23 +1,8 @@
-use Prim.Native.Nat.{◌+◌, ◌-◌, ◌≤◌, ℕ}
-use mathlib.Core.Bool.{true}
-use mathlib.Core.List.{List}
-use mathlib.Core.Path.{◌∙◌, ◌≡◌, sym}
-use native.Mathlib.Omega.{arith}
-use lib.Dec.{eqb, ltb}
+use Prim.Native.Nat.{◌+◌, ◌-◌, ◌≤◌}
 use lib.ListN.{drop, length}
-use borrow.Author.Tests.{eqb-true}
-use Rattle.yaml_text.specs.Test.{both_true}
-use Rattle.yaml_text.specs.Char.{space}
 use Rattle.yaml_text.specs.Utf8.{chars}
 use Rattle.yaml_lexeme.specs.Block.{margin}
-use Rattle.chars.specs.declared.mark.Place.{Place}
-use Rattle.chars.specs.Bytes.{CharAt, eq_char}
-use Rattle.chars.specs.Places.{small}
-use Rattle.chars.specs.Reach.{reach_one}
-use Rattle.gaps.specs.Breaks.{BreakAt, break_at}
-use Rattle.gaps.specs.Walk.{Walks, walks_along, walks_move, walks_start}
-use Rattle.block_header.proofs.Margins.{margin_end, margin_line, margin_space, margins_done}
-use borrow.Author.Rules.{rules}
+use Rattle.gaps.specs.Walk.{Walks}
 use Rattle.block_header.proofs.margin.skip_margin.Given as goal
 
 abbrev pub invariant-loop-p : goal.invariant-loop-p

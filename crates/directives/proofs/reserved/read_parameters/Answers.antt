@@ -1,8 +1,6 @@
 -- What is left to read and write from a word on gives all parameters.
-use Prim.Native.Nat.{◌-◌}
 use mathlib.Core.Path.{refl}
-use lib.ListN.{length}
-use Rattle.directives.proofs.Joining.{Joining, joining_done, joining_from, joining_more, joining_small, joining_start}
+use Rattle.directives.proofs.Joining.{joining_done, joining_from, joining_more, joining_small, joining_start}
 use borrow.Author.Rules.{rules}
 use Rattle.directives.proofs.reserved.read_parameters.Goals as goal
 

@@ -1,8 +1,6 @@
 use Prim.Native.Nat.{◌-◌}
-use mathlib.Core.Path.{refl}
 use lib.ListN.{length}
-use Rattle.directives.proofs.Joining.{Joining, joining_done, joining_from, joining_more, joining_small, joining_start}
-use borrow.Author.Rules.{rules}
+use Rattle.directives.proofs.Joining.{Joining}
 use Rattle.directives.proofs.reserved.read_parameters.Given as goal
 
 abbrev pub invariant-loop-e : goal.invariant-loop-e

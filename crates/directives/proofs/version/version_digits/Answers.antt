@@ -1,12 +1,11 @@
 -- The value of what is left, behind the digits so far, is the whole value; nine digits do not wrap.
-use Prim.Native.Nat.{◌*◌, ◌+◌, ◌-◌, ◌<◌, ◌^◌}
+use Prim.Native.Nat.{◌*◌, ◌+◌, ◌<◌, ◌^◌}
 use mathlib.Core.Bool.{true}
 use mathlib.Core.Path.{◌∙◌, ◌≡◌, sym}
 use native.Mathlib.Omega.{arith}
-use lib.ListN.{length}
 use Rattle.yaml_text.specs.Class.{is_digit}
 use Rattle.chars.specs.Places.{small}
-use Rattle.directives.proofs.Versions.{Counting, counting_long, counting_more, counting_room, counting_start, counting_stop, digit_char, digit_value}
+use Rattle.directives.proofs.Versions.{counting_long, counting_more, counting_room, counting_start, counting_stop, digit_char, digit_value}
 use borrow.Author.Rules.{rules}
 use Rattle.directives.proofs.version.version_digits.Goals as goal
 

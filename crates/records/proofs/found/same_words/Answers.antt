@@ -1,9 +1,6 @@
 -- As long as the words are the same, what is left decides.
-use Prim.Native.Nat.{◌-◌, ◌≤◌}
-use mathlib.Core.Path.{◌≡◌, refl}
+use mathlib.Core.Path.{refl}
 use native.Mathlib.Omega.{arith}
-use lib.ListN.{drop, length}
-use Rattle.yaml_text.specs.Class.{same}
 use Rattle.records.proofs.Same.{all_same, other_length, other_word, same_word}
 use Rattle.records.proofs.found.same_words.Goals as goal
 

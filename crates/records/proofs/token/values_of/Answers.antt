@@ -1,5 +1,6 @@
 -- Each arm has the definition's numbers for the kind that it was told; the kinds without a text have zeros.
 use mathlib.Core.Path.{◌≡◌, ap, sym}
+use borrow.Enum.Refused.{opened}
 use Rattle.yaml_lexeme.specs.declared.Kind.{Kind}
 use Rattle.yaml_lexeme.specs.Record.{values_of}
 use Rattle.records.specs.Kinds.{five, no_values, style_placed}
@@ -38,4 +39,4 @@ unfolding values_of
 returns-in-ReservedDirective c = told c.in-ReservedDirective.is
 
 pub returns-in_default : goal.returns-in_default
-returns-in_default c = ap five (sym (no_values c.args.k c.in_default.in_default-own.keys8))
+returns-in_default c = ap five (sym (no_values c.args.k (opened c.in_default.in_default-own.keys8)))

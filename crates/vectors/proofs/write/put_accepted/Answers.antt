@@ -11,4 +11,7 @@ returns c =
     let r = c.put_rows-c.ensures in
     let s = c.put_hex-e.ensures in
     let u = c.put_text.ensures in
-    (accepted_written a.words.now a.bytes.now a.t a.d (first_part a.d a.bytes.now) p q.0 r.0 s.0 u, omega (arith, p.behind, q.1, r.1, s.1, u.behind))
+    record {
+      written = accepted_written a.words.now a.bytes.now a.t a.d (first_part a.d a.bytes.now) p q.written r.written s.written u;
+      upper_bound = omega (arith, p.behind, q.upper_bound, r.upper_bound, s.value, u.behind);
+    }

@@ -7,4 +7,4 @@ pub returns : goal.returns
 returns c =
     let p = c.put_hex-n.ensures in
     let q = c.put_text.ensures in
-    (head_written _ _ _ c.args.text.now _ _ p.0 q, omega (arith, p.1, q.behind))
+    record { written = head_written _ _ _ c.args.text.now _ _ p.written q; value = omega (arith, p.value, q.behind) }

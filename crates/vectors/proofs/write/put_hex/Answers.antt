@@ -12,7 +12,7 @@ pub loop-i-init : goal.loop-i-init
 loop-i-init c = (omega arith, omega arith, writing_starts)
 
 pub figure-requires : goal.figure-requires
-figure-requires c = omega (arith, c.shared_slice_known-in-loop-i-1.given c.loop-i.i)
+figure-requires c = omega (arith, c.type_inv.bytes c.loop-i.i)
 
 pub figure-requires-in-loop-i : goal.figure-requires-in-loop-i
 figure-requires-in-loop-i c = omega arith
@@ -31,4 +31,7 @@ pub returns : goal.returns
 returns c =
     let l = c.loop-i in
     let a = c.args in
-    (writing_ends (rw (hex_end a.bytes.now l.i c.loop-i-test.false) at l.invariant.2), omega arith)
+    record {
+      written = writing_ends (rw (hex_end a.bytes.now l.i c.loop-i-test.false) at l.invariant.2);
+      value = omega arith;
+    }

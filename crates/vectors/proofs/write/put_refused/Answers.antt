@@ -7,4 +7,4 @@ pub returns : goal.returns
 returns c =
     let p = c.put_text-n.ensures in
     let q = c.put_numbers.ensures in
-    (refused_written _ _ _ _ _ _ _ p q.0, omega (arith, p.behind, q.1))
+    record { written = refused_written _ _ _ _ _ _ _ p q.written; upper_bound = omega (arith, p.behind, q.upper_bound) }

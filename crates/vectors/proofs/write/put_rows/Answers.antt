@@ -20,7 +20,7 @@ loop-n-preserved c =
     let m = rows_more a.t l.n _ a.words.now c.loop-n-test.true c.behind.ensures in
     let e : l.n * record_words + record_words - l.n * record_words ≡ record_words = omega arith in
     let q = rw e at p in
-    (omega arith, omega (arith, q.1, row_few (drop (l.n * record_words) a.words.now)), writing_more l.invariant.2 m q.0)
+    (omega arith, omega (arith, q.upper_bound, row_few (drop (l.n * record_words) a.words.now)), writing_more l.invariant.2 m q.written)
 
 pub shape_of-out : goal.shape_of-out
 shape_of-out c = c.loop-n.invariant.2.same
@@ -29,4 +29,7 @@ pub returns : goal.returns
 returns c =
     let l = c.loop-n in
     let a = c.args in
-    (writing_ends (rw (rows_end a.t l.n a.words.now c.loop-n-test.false) at l.invariant.2), omega arith)
+    record {
+      written = writing_ends (rw (rows_end a.t l.n a.words.now c.loop-n-test.false) at l.invariant.2);
+      upper_bound = omega arith;
+    }
