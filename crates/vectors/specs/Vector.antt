@@ -1,5 +1,5 @@
 -- The line of a vector: a text in hexadecimal, " => ", and its answer.
-use Rattle.std.specs.Prelude.{◌%◌, ◌+◌, ◌/◌, suc, zero, ℕ, List, [], ◌++◌, ◌∷◌, ◌≡◌, refl, eqb, drop, take}
+use Rattle.std.specs.Prelude.{◌%◌, ◌/◌, suc, zero, ℕ, List, [], ◌++◌, ◌∷◌, ◌≡◌, refl, eqb, drop, take}
 use Rattle.io.specs.Digits.{hex_digit_ascii}
 use Rattle.yaml_text.specs.Pick.{pick}
 use Rattle.yaml_lexeme.specs.Record.{record_words}

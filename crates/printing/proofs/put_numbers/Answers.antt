@@ -1,9 +1,8 @@
 -- A turn writes one number with the byte behind it; what is left to write is the line of the numbers left.
-use Prim.Native.Nat.{◌*◌, ◌+◌, ◌-◌, ◌<◌, ◌^◌, ◌≤◌}
+use Prim.Native.Nat.{◌<◌, ◌^◌}
 use native.Mathlib.Omega.{arith}
-use lib.ListN.{drop, get_or, length}
-use Rattle.printing.specs.Lines.{numbers_line}
-use Rattle.printing.specs.Written.{Writing, writing_ends, writing_more, writing_starts}
+use lib.ListN.{get_or}
+use Rattle.printing.specs.Written.{writing_ends, writing_more, writing_starts}
 use Rattle.printing.proofs.Line.{line_ends, line_more}
 use Rattle.printing.proofs.Number.{number_few}
 use Rattle.printing.proofs.put_numbers.Goals as goal

@@ -1,10 +1,7 @@
-use Prim.Native.Nat.{◌*◌, ◌+◌, ◌-◌, ◌<◌, ◌^◌, ◌≤◌}
-use native.Mathlib.Omega.{arith}
-use lib.ListN.{drop, get_or, length}
+use Prim.Native.Nat.{◌*◌, ◌+◌, ◌-◌, ◌≤◌}
+use lib.ListN.{drop, length}
 use Rattle.printing.specs.Lines.{numbers_line}
-use Rattle.printing.specs.Written.{Writing, writing_ends, writing_more, writing_starts}
-use Rattle.printing.proofs.Line.{line_ends, line_more}
-use Rattle.printing.proofs.Number.{number_few}
+use Rattle.printing.specs.Written.{Writing}
 use Rattle.printing.proofs.put_numbers.Given as goal
 
 abbrev pub invariant-loop-i : goal.invariant-loop-i

@@ -1,12 +1,9 @@
 use Prim.Native.Nat.{◌*◌, ◌+◌, ◌-◌, ◌≤◌}
-use mathlib.Core.Path.{sym}
-use native.Mathlib.Omega.{arith}
 use lib.ListN.{drop}
 use Rattle.yaml_lexeme.specs.Record.{record_words}
 use Rattle.printing.specs.Lines.{lines_text}
 use Rattle.printing.specs.Listing.{token_lines}
-use Rattle.printing.specs.Written.{Writing, writing_ends, writing_more, writing_starts}
-use Rattle.printing.proofs.Rows.{rows_end, rows_more, rows_start, ten}
+use Rattle.printing.specs.Written.{Writing}
 use Rattle.printing.proofs.put_records.Given as goal
 
 abbrev pub invariant-loop-n : goal.invariant-loop-n

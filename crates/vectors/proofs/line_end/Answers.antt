@@ -1,9 +1,7 @@
 -- Where the line ends stays the same while bytes that are no line feed are passed.
-use Prim.Native.Nat.{◌+◌, ◌-◌}
-use mathlib.Core.Path.{◌≡◌, refl}
+use mathlib.Core.Path.{refl}
 use native.Mathlib.Omega.{arith}
-use lib.ListN.{drop, length}
-use Rattle.vectors.specs.Line.{line_ends, line_length, line_more, line_past}
+use Rattle.vectors.specs.Line.{line_ends, line_more, line_past}
 use Rattle.vectors.proofs.line_end.Goals as goal
 
 pub loop-i-init : goal.loop-i-init

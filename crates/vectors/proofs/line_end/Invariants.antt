@@ -1,8 +1,7 @@
 use Prim.Native.Nat.{◌+◌, ◌-◌}
-use mathlib.Core.Path.{◌≡◌, refl}
-use native.Mathlib.Omega.{arith}
+use mathlib.Core.Path.{◌≡◌}
 use lib.ListN.{drop, length}
-use Rattle.vectors.specs.Line.{line_ends, line_length, line_more, line_past}
+use Rattle.vectors.specs.Line.{line_length}
 use Rattle.vectors.proofs.line_end.Given as goal
 
 abbrev pub invariant-loop-i : goal.invariant-loop-i

@@ -1,8 +1,6 @@
 -- A turn reads two digits and stores their byte; what is left of the line gives the rest.
-use Prim.Native.Nat.{◌-◌}
 use native.Mathlib.Omega.{arith}
-use lib.ListN.{length}
-use Rattle.vectors.proofs.Reading.{Reading, reading_full, reading_high, reading_low, reading_more, reading_short, reading_starts}
+use Rattle.vectors.proofs.Reading.{reading_full, reading_high, reading_low, reading_more, reading_short, reading_starts}
 use Rattle.vectors.proofs.read_hex.Goals as goal
 
 pub loop-n-init : goal.loop-n-init

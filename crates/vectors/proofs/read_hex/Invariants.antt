@@ -1,7 +1,6 @@
 use Prim.Native.Nat.{◌-◌}
-use native.Mathlib.Omega.{arith}
 use lib.ListN.{length}
-use Rattle.vectors.proofs.Reading.{Reading, reading_full, reading_high, reading_low, reading_more, reading_short, reading_starts}
+use Rattle.vectors.proofs.Reading.{Reading}
 use Rattle.vectors.proofs.read_hex.Given as goal
 
 abbrev pub invariant-loop-n : goal.invariant-loop-n

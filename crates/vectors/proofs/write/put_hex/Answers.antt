@@ -1,10 +1,7 @@
 -- A turn writes one byte; what is left to write are the bytes left.
-use Prim.Native.Nat.{◌*◌, ◌+◌, ◌-◌, ◌≤◌}
-use mathlib.Core.Path.{◌≡◌}
 use native.Mathlib.Omega.{arith}
-use lib.ListN.{drop, get_or, length}
-use Rattle.printing.specs.Written.{Writing, writing_ends, writing_more, writing_starts}
-use Rattle.vectors.specs.Vector.{hex_text}
+use lib.ListN.{get_or}
+use Rattle.printing.specs.Written.{writing_ends, writing_more, writing_starts}
 use Rattle.vectors.proofs.Lines.{byte_written, hex_end, hex_more}
 use Rattle.vectors.proofs.write.put_hex.Goals as goal
 

@@ -1,10 +1,8 @@
 use Prim.Native.Nat.{◌*◌, ◌+◌, ◌-◌, ◌≤◌}
 use mathlib.Core.Path.{◌≡◌}
-use native.Mathlib.Omega.{arith}
-use lib.ListN.{drop, get_or, length}
-use Rattle.printing.specs.Written.{Writing, writing_ends, writing_more, writing_starts}
+use lib.ListN.{drop, length}
+use Rattle.printing.specs.Written.{Writing}
 use Rattle.vectors.specs.Vector.{hex_text}
-use Rattle.vectors.proofs.Lines.{byte_written, hex_end, hex_more}
 use Rattle.vectors.proofs.write.put_hex.Given as goal
 
 abbrev pub invariant-loop-i : goal.invariant-loop-i

@@ -1,11 +1,10 @@
 -- A turn writes one record with the byte behind it; what is left to write are the records left.
-use Prim.Native.Nat.{◌*◌, ◌+◌, ◌-◌, ◌≤◌}
+use Prim.Native.Nat.{◌*◌, ◌+◌, ◌-◌}
 use mathlib.Core.Path.{◌≡◌}
 use native.Mathlib.Omega.{arith}
 use lib.ListN.{drop}
 use Rattle.yaml_lexeme.specs.Record.{record_words}
-use Rattle.printing.specs.Written.{Writing, writing_ends, writing_more, writing_starts}
-use Rattle.vectors.specs.Vector.{rows_text}
+use Rattle.printing.specs.Written.{writing_ends, writing_more, writing_starts}
 use Rattle.vectors.proofs.Lines.{row_few, rows_end, rows_more, rows_start}
 use Rattle.vectors.proofs.write.put_rows.Goals as goal
 

@@ -1,11 +1,8 @@
 use Prim.Native.Nat.{◌*◌, ◌+◌, ◌-◌, ◌≤◌}
-use mathlib.Core.Path.{◌≡◌}
-use native.Mathlib.Omega.{arith}
 use lib.ListN.{drop}
 use Rattle.yaml_lexeme.specs.Record.{record_words}
-use Rattle.printing.specs.Written.{Writing, writing_ends, writing_more, writing_starts}
+use Rattle.printing.specs.Written.{Writing}
 use Rattle.vectors.specs.Vector.{rows_text}
-use Rattle.vectors.proofs.Lines.{row_few, rows_end, rows_more, rows_start}
 use Rattle.vectors.proofs.write.put_rows.Given as goal
 
 abbrev pub invariant-loop-n : goal.invariant-loop-n
