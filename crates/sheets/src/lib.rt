@@ -48,16 +48,21 @@ pub fn fail_sheet(rt: &HostRuntime, name: &[u8], why: io::Error) {
     }
 }
 
-fn open_file(rt: &HostRuntime, name: &[u8]) -> io::Result<File> {
+fn open(rt: &HostRuntime, name: &[u8]) -> io::Result<File> {
     File::open(rt, path(name)?)
 }
 
-// What a sheet is read from. Where there is none, standard error says why.
+// What a sheet is read from: a file, or standard input where there is no name. Where there is none, standard error says why.
 pub fn open_sheet(rt: &HostRuntime, name: &[u8]) -> Option<Source> {
     if name.len() == 0 {
         return Some(Source::Input(rt.stdin()));
     }
-    match open_file(rt, name) {
+    open_file(rt, name)
+}
+
+// The file of a name. Where there is none, standard error says why.
+pub fn open_file(rt: &HostRuntime, name: &[u8]) -> Option<Source> {
+    match open(rt, name) {
         Ok(file) => Some(Source::File(file)),
         Err(e) => {
             fail(rt, name, e);
