@@ -24,7 +24,7 @@ use Rattle.yaml_job.specs.Shape.{Entries, Fields, Is, IsScalar, Shape, ValueOf, 
 use Rattle.yaml_job.proofs.JobReads.{ends_done}
 use Rattle.yaml_job.proofs.Calls.{talk_of}
 use Rattle.yaml_job.proofs.Done.{done_or_51}
-use Rattle.yaml_job.specs.BlockSheet.{InBlock, NamesNear, OnNameLine, most_behind}
+use Rattle.yaml_job.specs.BlockSheet.{InBlock, OnNameLine, most_behind}
 
 -- the sheet's tokens are orderly
 

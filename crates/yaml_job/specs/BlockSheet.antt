@@ -1,7 +1,7 @@
 -- A sheet in block form, with its list on the line on which the list's name ends. That it never meets 51, whatever its length, and that its job is done, is proved
 -- in proofs/BlockSheet.
 use Rattle.std.specs.Prelude.{ℕ, List, [], ◌∷◌, ◌≡◌}
-use Rattle.yaml_lexeme.specs.Token.{BlockEnd, BlockMappingStart, FlowSequenceStart, StreamEnd, Token}
+use Rattle.yaml_lexeme.specs.Token.{BlockMappingStart, FlowSequenceStart, Token}
 use Rattle.yaml_stream.specs.Orderly.{line_scalar, part_of}
 use Rattle.yaml_job.specs.Shape.{Is}
 

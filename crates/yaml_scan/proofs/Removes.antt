@@ -22,7 +22,7 @@ use Rattle.yaml_scan.specs.Value.{fetch_block_entry, fetch_key, roll_state, valu
 use Rattle.yaml_scan.specs.Document.{after_marker, fetch_byte_order_mark, fetch_directive, fetch_document_indicator, fetch_stream_end, forced, leave_blocks}
 use Rattle.yaml_scan.specs.Fetch.{fetch, fetch_anchor, fetch_block_scalar, fetch_flow_scalar, fetch_plain_scalar, fetch_tag}
 use Rattle.yaml_scan.proofs.Fetches.{stack_bracket_is}
-use Rattle.yaml_scan.specs.Removes.{Became, Told, closed, none, opened, removed, removes, saved, used}
+use Rattle.yaml_scan.specs.Removes.{Told, closed, none, opened, removed, removes, saved, used}
 
 opens_told : (limits : Limits) (sequence : Bool) (s : State) → All News (Told (Opens sequence) s) (fetch_flow_collection_start limits sequence s)
 unfolding fetch_flow_collection_start removes
