@@ -8,9 +8,9 @@ use Rattle.yaml_text.specs.Utf8.{by_len, char_if, first, four, is_scalar, is_tai
 use Rattle.yaml_scan.specs.declared.Limits.{Limits}
 use Rattle.yaml_scan.specs.State.{Event, State}
 use Rattle.yaml_scan.specs.Scan.{begin}
-use Rattle.yaml_scan.specs.Runs.{StepsReach, here, then_step}
+use Rattle.yaml_scan.proofs.Runs.{StepsReach, here, then_step}
 use Rattle.yaml_text.specs.All.{all_got}
-use Rattle.yaml_stream.specs.Here.{Levelled, step_levelled}
+use Rattle.yaml_stream.proofs.Here.{Levelled, step_levelled}
 
 -- no lead byte has a length above 4: the last case of `by_len` is 4
 pub len_most : (a : ℕ) → len_of a ≤ 4
@@ -49,6 +49,9 @@ unfolding first
 first_not_end a t = len_not_end (len_of a) a (get_or t 0 0) (get_or t 1 0) (get_or t 2 0)
 
 -- in every state that a run reaches there is a candidate, or none, for each level and for the outermost: `top_key` is asked of no empty list
-pub reached_levelled : {limits : Limits} (cs : List ℕ) {es : List Event} {t : State} → StepsReach limits (begin cs) es t → Levelled t.keys t.levels
-reached_levelled cs here = refl
-reached_levelled {limits} cs (then_step {t = t} r e) = all_got (step_levelled limits t (reached_levelled cs r)) e
+pub reached_levelled : {limits : Limits} {es : List Event} {t : State} (cs : List ℕ) → StepsReach limits (begin cs) es t → Levelled t.keys t.levels
+reached_levelled {limits} cs r = by_steps r
+  where
+    by_steps : {es : List Event} {t : State} → StepsReach limits (begin cs) es t → Levelled t.keys t.levels
+    by_steps here = refl
+    by_steps (then_step {t = t} r e) = all_got (step_levelled limits t (by_steps r)) e

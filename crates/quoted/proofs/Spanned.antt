@@ -2,14 +2,10 @@
 use Prim.Native.Nat.{◌+◌, ℕ}
 use mathlib.Core.Bool.{Bool, ◌&&◌, ◌||◌, and-false, false, or-true, true}
 use mathlib.Core.List.{List, []}
-use mathlib.Core.Logic.{◌⊎◌, inl, inr}
-use mathlib.Core.Path.{◌≡◌, sym}
-use native.Mathlib.Omega.{arith}
+use mathlib.Core.Path.{◌≡◌, refl, sym}
 use lib.Dec.{eqb}
 use lib.ListN.{drop, get_or}
 use borrow.Author.Tests.{eqb-true}
-use denote.Enum.Declared.{tag_of}
-use Rattle.yaml_text.specs.contracts.Decoded.{the_type}
 use Rattle.yaml_text.specs.declared.Decoded.{Decoded}
 use Rattle.yaml_text.specs.declared.Decoded.TheVariants.{Char, End, Ill}
 use Rattle.yaml_text.specs.Char.{space}
@@ -27,9 +23,8 @@ use Rattle.quoted.specs.Texts.{inner, ordinary, special, text_char, words}
 use Rattle.quoted.proofs.Texts.{ordinary_ascii, ordinary_plain, words_more, words_stop}
 
 -- no character begins at an offset
-pub no_chars : (s : List ℕ) (at : ℕ) (d : Decoded) → d ≡ first (drop at s) → (tag_of the_type d ≡ 1) ⊎ (tag_of the_type d ≡ 2) → chars (drop at s) ≡ []
-no_chars s at (Char c n) e (inl k) = absurd (omega arith)
-no_chars s at (Char c n) e (inr k) = absurd (omega arith)
+pub no_chars : (s : List ℕ) (at : ℕ) (d : Decoded) → d ≡ first (drop at s) → ((c n : ℕ) → d ≡ Char c n → ⊥) → chars (drop at s) ≡ []
+no_chars s at (Char c n) e k = absurd (k c n refl)
 no_chars s at Ill e k = none_ill s at (sym e)
 no_chars s at End e k = none_end s at (sym e)
 

@@ -1,5 +1,5 @@
 -- The words of the definition's slots: the record of each slot's token, its texts behind the bytes used so far, with its note.
-use Rattle.std.specs.Prelude.{◌%◌, ◌*◌, ◌+◌, ◌-◌, ◌<◌, ◌≤◌, suc, zero, ℕ, List, [], ◌++◌, ◌∷◌, map, ◌≡◌, refl, eqb, drop, length, set}
+use Rattle.std.specs.Prelude.{◌%◌, ◌*◌, ◌+◌, ◌<◌, ◌≤◌, suc, zero, ℕ, List, [], ◌++◌, ◌∷◌, map, ◌≡◌, refl, eqb, drop, length, set}
 use Rattle.std.proofs.Common.{append_assoc, append-nil, ◌∙◌, sym, arith, length-append, length-drop, drop-drop, get_or-append-add, take_at}
 use Rattle.std.proofs.Math.Seq.{drop-append-add}
 use Rattle.std.proofs.lemmas.List.Edits.{sets-eq}
@@ -10,7 +10,7 @@ use Rattle.yaml_lexeme.specs.Token.{Token, token_bytes}
 use Rattle.yaml_lexeme.specs.RecordLaws.{record_length}
 use Rattle.yaml_lexeme.specs.Record.{laid, laid_token, number_of, record_of, record_words}
 use Rattle.yaml_scan.specs.Slots.{Slot, note, slot}
-use Rattle.yaml_scan.specs.SlotLaws.{note_length}
+use Rattle.yaml_scan.proofs.SlotLaws.{note_length}
 use Rattle.records.specs.Kinds.{note_base}
 use Rattle.records.specs.Note.{no_note, noted_word, with_note, with_note_length}
 use Rattle.sink.specs.Store.{put_note, put_note_in, put_record, put_record_in}

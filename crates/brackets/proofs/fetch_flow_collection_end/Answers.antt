@@ -37,7 +37,7 @@ returns-in-Refused c =
     λ n.
     let a = c.args in
     fetch_refused
-    (end_refused a.sequence a.text.now a.stacks.now n.count a.s c.if-s-eq0.left c.level_data-l.ensures c.if-l-sequence.left
+    (end_refused a.sequence a.text.now a.stacks.now n.count a.s c.if-s-eq0.false c.level_data-l.ensures c.if-l-sequence.false
     c.requires.0.stands c.requires.1 (past) c.in-Refused.is)
     refl
 
@@ -49,5 +49,5 @@ returns-in-To c =
     let y = c.requires.0 in
     rw (c.past.ensures, c.closing_kind.ensures, c.with_level.ensures)
     (emits_to c.level_data-l.result.implicit true y.stands c.requires.1 (past) c.in-To.is (closes a.sequence) y.low (omega (arith, y.deep))
-    (end_emits a.sequence a.text.now a.stacks.now n.count a.s c.if-s-eq0.left c.level_data-l.ensures c.if-l-sequence.left)
+    (end_emits a.sequence a.text.now a.stacks.now n.count a.s c.if-s-eq0.false c.level_data-l.ensures c.if-l-sequence.false)
     refl)

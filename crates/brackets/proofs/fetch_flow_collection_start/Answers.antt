@@ -32,7 +32,7 @@ returns-in-Refused c =
     let past : Past c.args.text.now c.args.s.place c.rest_of_line-r.result = rw c.skip_blank.ensures at c.rest_of_line-r.ensures in
     let a = c.args in
     fetch_refused
-    (start_refused a.limits a.sequence a.text.now a.stacks.now a.n.count a.s c.needs_entry-entry.ensures c.if-entry-limits.left c.if-limits-s.left
+    (start_refused a.limits a.sequence a.text.now a.stacks.now a.n.count a.s c.needs_entry-entry.ensures c.if-entry-limits.false c.if-limits-s.false
     c.requires.0.stands c.requires.1 (past) c.in-Refused.is)
     refl
 
@@ -51,10 +51,10 @@ stack_bracket-i-requires c =
 pub open_level-requires : goal.open_level-requires
 open_level-requires c =
     let p = c.requires.0 in
-    (omega (arith, p.lent.levels-most, c.if-limits-s.left), omega (arith, p.lent.room, c.save_key.auto.stacks, c.stack_bracket-i.auto.stacks))
+    (omega (arith, p.lent.levels_most, c.if-limits-s.false), omega (arith, p.lent.room, c.save_key.auto.stacks, c.stack_bracket-i.auto.stacks))
 
 pub overflow_add-s : goal.overflow_add-s
-overflow_add-s c = omega (arith, c.requires.0.lent.levels-most, c.if-limits-s.left)
+overflow_add-s c = omega (arith, c.requires.0.lent.levels_most, c.if-limits-s.false)
 
 pub past-requires : goal.past-requires
 past-requires c =
@@ -73,8 +73,8 @@ returns c =
     rw (c.past.ensures, c.opening_kind.ensures, c.with_level-t.ensures, c.with_indents.ensures)
     (emits_to false false y.stands c.requires.1 (past) c.in-To.is (opens a.sequence)
     c.stack_bracket-i.ensures.low
-    (omega (arith, c.if-limits-s.left))
-    (start_emits a.limits a.sequence a.text.now a.stacks.now a.n.count a.s c.needs_entry-entry.ensures c.if-entry-limits.false c.if-limits-s.left
+    (omega (arith, c.if-limits-s.false))
+    (start_emits a.limits a.sequence a.text.now a.stacks.now a.n.count a.s c.needs_entry-entry.ensures c.if-entry-limits.false c.if-limits-s.false
     ∙ ap (emit_bracket (pick a.sequence FlowSequenceStart FlowMappingStart) false false)
-    (start_state c.save_key.ensures c.stack_bracket-i.ensures c.open_level.ensures (omega (arith, c.stack_bracket-i.ensures.low.deep, y.lent.entries-most)) a.text.now))
+    (start_state c.save_key.ensures c.stack_bracket-i.ensures c.open_level.ensures (omega (arith, c.stack_bracket-i.ensures.low.deep, y.lent.entries_most)) a.text.now))
     (start_words c.save_key.ensures c.stack_bracket-i.ensures c.open_level.ensures c.needs_entry-entry.ensures))

@@ -1,9 +1,7 @@
 -- What is left to write from a turn on is the whole text; each turn reads a byte.
-use Prim.Native.Nat.{◌-◌}
 use mathlib.Core.Path.{◌∙◌}
 use native.Mathlib.Omega.{arith}
-use lib.ListN.{length}
-use Rattle.quoted.proofs.Running.{Running, running_done, running_less, running_more, running_start}
+use Rattle.quoted.proofs.Running.{running_done, running_less, running_more, running_start}
 use Rattle.quoted.proofs.quoted_run.Goals as goal
 
 pub loop-next-init : goal.loop-next-init

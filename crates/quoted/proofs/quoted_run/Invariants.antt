@@ -1,8 +1,6 @@
 use Prim.Native.Nat.{◌-◌}
-use mathlib.Core.Path.{◌∙◌}
-use native.Mathlib.Omega.{arith}
 use lib.ListN.{length}
-use Rattle.quoted.proofs.Running.{Running, running_done, running_less, running_more, running_start}
+use Rattle.quoted.proofs.Running.{Running}
 use Rattle.quoted.proofs.quoted_run.Given as goal
 
 abbrev pub invariant-loop-next : goal.invariant-loop-next

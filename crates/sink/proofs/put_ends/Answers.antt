@@ -1,10 +1,6 @@
 -- BlockEnds are stored one by one: those that are left give the whole.
-use Prim.Native.Nat.{◌-◌, ◌≤◌}
-use mathlib.Core.Path.{◌∙◌, ◌≡◌, refl, sym}
+use mathlib.Core.Path.{◌∙◌, refl, sym}
 use native.Mathlib.Omega.{arith}
-use lib.ListN.{length}
-use Rattle.sink.specs.StepTokens.{end_tokens}
-use Rattle.sink.specs.Store.{put_list}
 use Rattle.sink.proofs.Storing.{ends_more, ends_none, ends_start}
 use Rattle.sink.proofs.put_ends.Goals as goal
 

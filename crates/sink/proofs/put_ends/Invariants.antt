@@ -1,10 +1,8 @@
 use Prim.Native.Nat.{◌-◌, ◌≤◌}
-use mathlib.Core.Path.{◌∙◌, ◌≡◌, refl, sym}
-use native.Mathlib.Omega.{arith}
+use mathlib.Core.Path.{◌≡◌}
 use lib.ListN.{length}
 use Rattle.sink.specs.StepTokens.{end_tokens}
 use Rattle.sink.specs.Store.{put_list}
-use Rattle.sink.proofs.Storing.{ends_more, ends_none, ends_start}
 use Rattle.sink.proofs.put_ends.Given as goal
 
 abbrev pub invariant-loop-i : goal.invariant-loop-i

@@ -1,10 +1,7 @@
-use Prim.Native.Nat.{◌*◌, ◌-◌, ◌≤◌}
-use mathlib.Core.Path.{◌∙◌, ◌≡◌, refl, sym}
-use native.Mathlib.Omega.{arith}
+use Prim.Native.Nat.{◌≤◌}
+use mathlib.Core.Path.{◌≡◌}
 use lib.ListN.{length}
-use Rattle.yaml_lexeme.specs.Record.{record_words}
 use Rattle.sink.specs.Settle.{front, settled_words, total_records}
-use Rattle.sink.proofs.Pass.{LastOfFront, settled_none, total_least, last_of_front, block_put}
 use Rattle.sink.proofs.settle.Given as goal
 
 abbrev pub invariant-loop-i : goal.invariant-loop-i

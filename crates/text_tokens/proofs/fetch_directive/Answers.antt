@@ -13,7 +13,7 @@ fetched_left-requires c =
     let k = c.scan_directive-r in
     let y = c.requires.0 in
     let g = saving y (search rules) k.result k.ensures.ahead in
-    (g.0, g.1, low_most y.lent.entries-most y.low, g.3)
+    (g.0, g.1, low_most y.lent.entries_most y.low, g.3)
 
 pub returns : goal.returns
 returns c =

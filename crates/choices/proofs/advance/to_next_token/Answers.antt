@@ -15,7 +15,7 @@ unrolled-u-requires c =
     let skipped : let a = c.args in Skips a.text.now a.s.place (Got c.in-Got.g) (gap_of a.text.now a.s) = rw c.in-Got.is at c.skip_gap-r.ensures in
     let p = c.requires in
     let w = (skipped).onward.0 in
-    rw c.moved-t.ensures (record { deep = omega (arith, p.low.deep, p.lent.entries-most); indent = p.low.indent }, search rules, search rules)
+    rw c.moved-t.ensures (record { deep = omega (arith, p.low.deep, p.lent.entries_most); indent = p.low.indent }, search rules, search rules)
 
 pub returns-in-Refused : goal.returns-in-Refused
 returns-in-Refused c =

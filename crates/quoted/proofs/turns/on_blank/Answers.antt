@@ -9,8 +9,7 @@ returns-then-is_broken-c c = (rw (← c.is_broken.ensures, c.if-is_broken-c.true
 
 pub returns : goal.returns
 unfolding swept
-returns c =
-    (
+returns c = (
   rw (← c.is_broken.ensures, c.if-is_broken-c.false) (c.goes.ensures ∙ rw (c.skip_blank.ensures, c.after_blank.ensures)),
   rw c.goes.ensures,
 )

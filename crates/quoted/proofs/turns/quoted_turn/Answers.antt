@@ -7,7 +7,7 @@ use borrow.Author.Rules.{rules}
 use Rattle.quoted.proofs.turns.quoted_turn.Goals as goal
 
 pub returns-in_default : goal.returns-in_default
-returns-in_default c = end_turns (no_chars c.args.text.now c.args.t.place.at _ c.char_at-d.ensures c.in_default.in_default-own.keys2) c.wrong.ensures.0 c.wrong.ensures.1
+returns-in_default c = end_turns (no_chars c.args.text.now c.args.t.place.at _ c.char_at-d.ensures c.in_default.not-Char) c.wrong.ensures.0 c.wrong.ensures.1
 
 pub returns-then-is_blank : goal.returns-then-is_blank
 returns-then-is_blank c =

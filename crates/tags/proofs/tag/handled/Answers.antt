@@ -1,6 +1,5 @@
 -- The handle is copied and the suffix written behind it; a refusal clears both.
-use Prim.Native.Nat.{◌+◌, ℕ}
-use mathlib.Core.List.{List}
+use Prim.Native.Nat.{◌+◌}
 use mathlib.Core.Path.{◌∙◌, refl, sym}
 use native.Mathlib.Omega.{arith}
 use lib.Seq.{length-take-le}

@@ -1,0 +1,12 @@
+pub mod Calls
+pub mod Done
+pub mod Exactly
+pub mod Examples
+pub mod Fits
+pub mod Handed
+pub mod NotDone
+pub mod JobReads
+pub mod Refused
+pub mod Seen
+pub mod SheetDone
+pub mod BlockSheet

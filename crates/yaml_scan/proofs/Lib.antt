@@ -1,0 +1,10 @@
+pub mod Budget
+pub mod ChoiceLaws
+pub mod FetchMoves
+pub mod Fetches
+pub mod Removal
+pub mod Required
+pub mod Runs
+pub mod SlotLaws
+pub mod Steps
+pub mod Removes

@@ -1,0 +1,5 @@
+pub mod ByteLaws
+pub mod DecodeLaws
+pub mod PlaceLaws
+pub mod Utf8Both
+pub mod Utf8Laws
