@@ -11,15 +11,15 @@ use Rattle.yaml_text.specs.declared.Mark.{Mark}
 use Rattle.yaml_text.specs.declared.Refusal.{Refusal}
 use Rattle.yaml_text.specs.Refusal.{Read, got, refused}
 use Rattle.yaml_text.specs.All.{all_got}
-use Rattle.yaml_text.proofs.PlaceLaws.{left}
+use Rattle.yaml_text.specs.PlaceLaws.{left}
 use Rattle.yaml_text.specs.Test.{by_pick, by_test}
 use Rattle.yaml_scan.specs.declared.Limits.{Limits}
 use Rattle.yaml_scan.specs.Choice.{choice}
 use Rattle.yaml_scan.specs.State.{Event, News, counting, goes_on, with_indents}
 use Rattle.yaml_scan.specs.State as definition
 use Rattle.yaml_scan.specs.Scan.{step, unrolled}
-use Rattle.yaml_scan.proofs.Runs.{step_news}
-use Rattle.yaml_stream.proofs.Alone.{step_last}
+use Rattle.yaml_scan.specs.Runs.{step_news}
+use Rattle.yaml_stream.specs.Alone.{step_last}
 use Rattle.yaml_stream.specs.Stream.{counted_from}
 use Rattle.chars.specs.View.{view}
 use Rattle.rooms.specs.Room.{cleared}

@@ -5,5 +5,13 @@ pub mod TokenCount
 pub mod Tokens
 pub mod ByteCount
 pub mod Bytes
+pub mod Room
 pub mod Nested
+pub mod NestedLaws
+pub mod Opened
+pub mod NestingMoves
+pub mod NestingSteps
+pub mod Nesting
 pub mod ReaderNumbers
+pub mod Numbers
+pub mod Answered
