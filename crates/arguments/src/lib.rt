@@ -5,6 +5,8 @@ pub mod word;
 
 ghost use Rattle.io.specs.Counts.{IsPrefixLen};
 
+use std::env::FillError;
+use std::rt::Env;
 use word::{Word, is, word_at};
 
 // Which words name the sheet, the record's file and the seeds' file, by their numbers; 0 where none does. Whether an empty list of seeds is allowed.
@@ -30,6 +32,8 @@ pub enum Fault {
     Empty,
     // More than 4,096 bytes.
     Long,
+    // A name that is not UTF-8.
+    NoText,
     // Not wrong: `--help`.
     Help,
 }
@@ -132,6 +136,7 @@ fn no_name(w: Word, at: usize, other: Fault, other_at: usize) -> Taken {
     match w {
         Word::Empty => stops(Fault::Empty, at),
         Word::Long => stops(Fault::Long, at),
+        Word::NoText => stops(Fault::NoText, at),
         Word::Help => stops(Fault::Help, at),
         _ => stops(other, other_at),
     }
@@ -193,12 +198,13 @@ fn take_last(plan: Plan, w: Word, at: usize) -> Taken {
     match w {
         Word::Empty => stops(Fault::Empty, at),
         Word::Long => stops(Fault::Long, at),
+        Word::NoText | Word::OtherNoText => stops(Fault::NoText, at),
         _ => take_sheet(plan, Wants::Sheet, at),
     }
 }
 
-fn take_word(verb: Verb, plan: Plan, wants: Wants, at: usize) -> Taken {
-    let w = word_at(at);
+fn take_word(rt: &HostRuntime, verb: Verb, plan: Plan, wants: Wants, at: usize) -> Taken {
+    let w = word_at(rt, at);
     match wants {
         Wants::Anything => take_any(verb, plan, w, at),
         Wants::Record => take_file(plan, true, w, at),
@@ -217,9 +223,27 @@ fn at_end(plan: Plan, wants: Wants, count: usize) -> Arguments {
     }
 }
 
+fn is_there(rt: &HostRuntime, at: usize) -> bool {
+    match rt.arg(at, &mut [0u8; 1]) {
+        Ok(_) => true,
+        Err(FillError::TooLong) => true,
+        Err(FillError::NotPresent) => false,
+    }
+}
+
+// How many words the program was started with, its own name among them.
+pub fn count(rt: &HostRuntime) -> usize {
+    for i in 0..usize::MAX {
+        if !is_there(rt, i) {
+            return i;
+        }
+    }
+    usize::MAX
+}
+
 // The words from the second on: the first is `job` or `tokens`.
-pub fn read_arguments(verb: Verb) -> Arguments {
-    let count = os::arg_count();
+pub fn read_arguments(rt: &HostRuntime, verb: Verb) -> Arguments {
+    let count = count(rt);
     let mut plan = Plan {
         sheet: 0,
         record: 0,
@@ -229,7 +253,7 @@ pub fn read_arguments(verb: Verb) -> Arguments {
     let mut wants = Wants::Anything;
     let mut i = 2;
     while i < count {
-        let t = take_word(verb, plan, wants, i);
+        let t = take_word(rt, verb, plan, wants, i);
         match t {
             Taken::Goes {
                 plan: next,
@@ -250,14 +274,24 @@ pub fn read_arguments(verb: Verb) -> Arguments {
     at_end(plan, wants, count)
 }
 
-// A word of the command line, by its number: how long it is; 0 for the number 0 and for `-`.
-pub fn name_at(at: usize, space: &mut [u8]) -> usize
+// A word of the command line, by its number: how long it is; 0 for one that is missing or has more bytes than the space.
+pub fn copy_word(rt: &HostRuntime, at: usize, space: &mut [u8]) -> usize
+    ensures { IsPrefixLen result space.new }
+{
+    match rt.arg(at, space) {
+        Ok(n) => n,
+        Err(_) => 0,
+    }
+}
+
+// The same of a name; 0 for the number 0 and for `-`.
+pub fn name_at(rt: &HostRuntime, at: usize, space: &mut [u8]) -> usize
     ensures { IsPrefixLen result space.new }
 {
     if at == 0 {
         return 0;
     }
-    let n = os::arg(at, space);
+    let n = copy_word(rt, at, space);
     if is(&space[..n], b"-") {
         return 0;
     }

@@ -3,7 +3,7 @@ use Rattle.std.specs.Prelude.{◌+◌, ◌-◌, ◌≤◌, ℕ, List, [], ◌++�
 use Rattle.std.proofs.Common.{◌∙◌, arith, drop-drop, take-add}
 use Rattle.yaml_text.specs.Mark.{Run}
 use Rattle.yaml_text.specs.Utf8.{char_bytes, encode}
-use Rattle.yaml_text.specs.Utf8Laws.{first_bytes}
+use Rattle.yaml_text.proofs.Utf8Laws.{first_bytes}
 use Rattle.chars.specs.declared.mark.Place.{Place}
 use Rattle.chars.specs.Bytes.{CharAt}
 use Rattle.chars.specs.View.{Moves}

@@ -5,10 +5,10 @@ ghost use Rattle.std.specs.Prelude.{◌<◌, ◌^◌, ◌≤◌, ◌≡◌, leng
 ghost use Rattle.printing.specs.Written.{Written};
 ghost use Rattle.closings.specs.Record.{record_text, told_column};
 
-use libc::STDOUT_FILENO;
+use outlets::Outlet;
 use printing::put_numbers;
 use rooms::copy;
-use saving::{NAME_ROOM, begin_file, close_output, drop_file, finish_file};
+use saving::{Begun, NAME_ROOM, begin_file, close_output, drop_file, finish_file};
 use stacks::at_most;
 use yaml_job::Closing;
 
@@ -52,39 +52,43 @@ fn put_record(out: &mut [u8], c: Closing) -> usize
     }
 }
 
-fn write_record(fd: i32, c: Closing) -> bool {
+fn write_record(to: &mut Outlet, c: Closing) -> bool {
     let mut room = [0u8; RECORD_ROOM];
     let n = put_record(&mut room, c);
-    io::write_all(fd, &room[0..n])
+    to.put(&room[0..n])
 }
 
 // Behind the seeds.
-fn print_record(c: Closing) -> bool {
-    if write_record(STDOUT_FILENO, c) {
-        return close_output();
+fn print_record(rt: &HostRuntime, c: Closing) -> bool {
+    let mut out = Outlet::output(rt);
+    if write_record(&mut out, c) {
+        return close_output(rt);
     }
-    os::fail(b"standard output");
+    out.fail(rt, b"standard output");
     false
 }
 
-fn file_record(c: Closing, file: &[u8]) -> bool {
+fn file_record(rt: &HostRuntime, c: Closing, file: &[u8]) -> bool {
     let mut name = [0u8; NAME_ROOM];
-    let begun = begin_file(file, &mut name);
-    if begun.fd < 0 {
-        return false;
+    match begin_file(rt, file, &mut name) {
+        Some(begun) => write_begun(rt, c, begun, &name, file),
+        None => false,
     }
-    if write_record(begun.fd, c) {
-        return finish_file(begun, &name, file);
+}
+
+fn write_begun(rt: &HostRuntime, c: Closing, mut begun: Begun, name: &[u8], file: &[u8]) -> bool {
+    if write_record(&mut begun.out, c) {
+        return finish_file(rt, begun, name, file);
     }
-    os::fail(file);
-    drop_file(begun, &name);
+    begun.out.fail(rt, file);
+    drop_file(rt, begun, name);
     false
 }
 
 // Whether the record stands in FILE, or on standard output where no FILE is named. Where it doesn't, standard error says why.
-pub fn save_record(c: Closing, file: &[u8]) -> bool {
+pub fn save_record(rt: &HostRuntime, c: Closing, file: &[u8]) -> bool {
     if file.len() == 0 {
-        return print_record(c);
+        return print_record(rt, c);
     }
-    file_record(c, file)
+    file_record(rt, c, file)
 }

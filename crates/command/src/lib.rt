@@ -5,9 +5,11 @@ mod listed;
 
 use crate::listed::list_plan;
 use arguments::word::is;
-use arguments::{Arguments, Verb, read_arguments};
+use arguments::word::MOST_WORD;
+use arguments::{Arguments, Verb, copy_word, read_arguments};
 use jobs::run_plan;
-use libc::{STDERR_FILENO, STDIN_FILENO};
+use std::fs::{File, OpenOptions};
+use std::os::fd::{AsRawFd, IntoRawFd};
 use usage::status::UNREAD;
 use usage::{give_help, say_fault, say_no_command};
 
@@ -37,70 +39,87 @@ fn asked_by(s: &[u8]) -> Asked {
 }
 
 // A word that is too long is none of those.
-fn first_word() -> Asked {
-    let mut space = io::buffer();
-    let n = os::arg(1, &mut space);
+fn first_word(rt: &HostRuntime) -> Asked {
+    let mut space = [0u8; MOST_WORD];
+    let n = copy_word(rt, 1, &mut space);
     asked_by(&space[..n])
 }
 
+// The numbers of standard input and error. Output's lies between.
+const INPUT: i32 = 0;
+
+const ERROR: i32 = 2;
+
+// Whether a file has a number above this one, and is closed then. Otherwise it stays open.
+fn is_above(file: File, number: i32) -> bool {
+    if number < file.as_raw_fd() {
+        return true;
+    }
+    file.into_raw_fd();
+    false
+}
+
 // A folder takes the number of standard output or error where it is closed: it can't be written.
-fn take_outputs() {
-    let mut i: usize = 0;
-    while i < 3 {
-        let fd = os::open_read(b"/");
-        if STDERR_FILENO < fd {
-            libc::close(fd);
-            return;
+fn take_outputs(rt: &HostRuntime) {
+    for _ in 0..3u8 {
+        match File::open(rt, "/") {
+            Ok(folder) => {
+                if is_above(folder, ERROR) {
+                    return;
+                }
+            }
+            Err(_) => {}
         }
-        i += 1;
     }
 }
 
 // The first file that is opened would get the number of standard input, output or error where that is closed. Input's goes to a file that can't be read.
-fn take_closed() {
-    let fd = os::open_append(b"/dev/null");
-    if STDIN_FILENO < fd {
-        libc::close(fd);
+fn take_closed(rt: &HostRuntime) {
+    match OpenOptions::new().append(true).open(rt, "/dev/null") {
+        Ok(file) => {
+            is_above(file, INPUT);
+        }
+        Err(_) => {}
     }
-    take_outputs();
+    take_outputs(rt);
 }
 
-fn run_job(text: &mut [u8], words: &mut [u32], bytes: &mut [u8]) -> u8 {
-    let a = read_arguments(Verb::Job);
+fn run_job(rt: &HostRuntime, text: &mut [u8], words: &mut [u32], bytes: &mut [u8]) -> u8 {
+    let a = read_arguments(rt, Verb::Job);
     match a {
-        Arguments::Plan(p) => run_plan(p, text, words, bytes),
-        Arguments::Wrong { fault, at } => say_fault(fault, at),
+        Arguments::Plan(p) => run_plan(rt, p, text, words, bytes),
+        Arguments::Wrong { fault, at } => say_fault(rt, fault, at),
     }
 }
 
-fn run_tokens(text: &mut [u8], words: &mut [u32], bytes: &mut [u8]) -> u8 {
-    let a = read_arguments(Verb::Tokens);
+fn run_tokens(rt: &HostRuntime, text: &mut [u8], words: &mut [u32], bytes: &mut [u8]) -> u8 {
+    let a = read_arguments(rt, Verb::Tokens);
     match a {
-        Arguments::Plan(p) => list_plan(p, text, words, bytes),
-        Arguments::Wrong { fault, at } => say_fault(fault, at),
+        Arguments::Plan(p) => list_plan(rt, p, text, words, bytes),
+        Arguments::Wrong { fault, at } => say_fault(rt, fault, at),
     }
 }
 
-fn run_first(text: &mut [u8], words: &mut [u32], bytes: &mut [u8]) -> u8 {
-    let w = first_word();
+fn run_first(rt: &HostRuntime, text: &mut [u8], words: &mut [u32], bytes: &mut [u8]) -> u8 {
+    let w = first_word(rt);
     match w {
-        Asked::Job => run_job(text, words, bytes),
-        Asked::Tokens => run_tokens(text, words, bytes),
-        Asked::Help => give_help(),
+        Asked::Job => run_job(rt, text, words, bytes),
+        Asked::Tokens => run_tokens(rt, text, words, bytes),
+        Asked::Help => give_help(rt),
         Asked::Other => {
-            say_no_command();
+            say_no_command(rt);
             UNREAD
         }
     }
 }
 
-fn exit_status(status: u8) -> i32 {
-    status as i32
-}
-
 // The text is read into the first room, which has a byte more than a sheet may have; the others are lent to the scanner.
-#[unsafe(no_mangle)]
-pub extern "C" fn tokenglade_command(text: &mut [u8], words: &mut [u32], bytes: &mut [u8]) -> i32 {
-    take_closed();
-    exit_status(run_first(text, words, bytes))
+pub fn tokenglade_command(
+    rt: &HostRuntime,
+    text: &mut [u8],
+    words: &mut [u32],
+    bytes: &mut [u8],
+) -> u8 {
+    take_closed(rt);
+    run_first(rt, text, words, bytes)
 }

@@ -16,7 +16,7 @@ use Rattle.yaml_scan.specs.SlotLaws.{total}
 use Rattle.yaml_scan.specs.Scan.{Outcome, after_events, after_step, run, scanned, step, stopped}
 use Rattle.yaml_scan.specs.Scan as scans
 use Rattle.yaml_scan.specs.Budget.{on_news}
-use Rattle.yaml_scan.specs.Runs.{step_news}
+use Rattle.yaml_scan.proofs.Runs.{step_news}
 use Rattle.events.specs.declared.Counts.{Counts}
 use Rattle.sink.specs.Stored.{CountsBehind}
 use Rattle.stream_laws.specs.declared.Pending.{Pending}

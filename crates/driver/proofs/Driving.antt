@@ -18,8 +18,8 @@ use Rattle.yaml_scan.specs.Choice.{choice}
 use Rattle.yaml_scan.specs.State.{Event, News, counting, goes_on, with_indents}
 use Rattle.yaml_scan.specs.State as definition
 use Rattle.yaml_scan.specs.Scan.{step, unrolled}
-use Rattle.yaml_scan.specs.Runs.{step_news}
-use Rattle.yaml_stream.specs.Alone.{step_last}
+use Rattle.yaml_scan.proofs.Runs.{step_news}
+use Rattle.yaml_stream.proofs.Alone.{step_last}
 use Rattle.yaml_stream.specs.Stream.{counted_from}
 use Rattle.chars.specs.View.{view}
 use Rattle.rooms.specs.Room.{cleared}

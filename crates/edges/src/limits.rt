@@ -1,10 +1,10 @@
 // The limits of 01, met and passed.
 ghost use Rattle.std.specs.Prelude.{◌≤◌, length};
 
-use libc::STDOUT_FILENO;
 use printing::say_numbers;
 use records::RECORD_WORDS;
 use scanner::{Answer, scan};
+use std::io;
 
 fn fill(out: &mut [u8], b: u8) {
     let mut i = 0;
@@ -14,21 +14,22 @@ fn fill(out: &mut [u8], b: u8) {
     }
 }
 
-fn say_answer(what: &[u8], a: Answer) {
-    io::write_all(STDOUT_FILENO, what);
+fn say_answer(rt: &HostRuntime, what: &[u8], a: Answer) -> io::Result<()> {
+    rt.write_all(what)?;
     match a {
         Answer::Accepted(t, d) => {
-            say_numbers(&[t, d], 10);
+            say_numbers(rt, &[t, d], 10)?;
         }
         Answer::Refused(f, _, _) => {
             let m = f.mark;
-            say_numbers(&[f.number, m.index, m.line, m.col], 10);
+            say_numbers(rt, &[f.number, m.index, m.line, m.col], 10)?;
         }
     }
+    Ok(())
 }
 
 // So many '[' and as many ']', in room for two records more.
-fn say_levels(what: &[u8], levels: usize, text: &mut [u8])
+fn say_levels(rt: &HostRuntime, what: &[u8], levels: usize, text: &mut [u8]) -> io::Result<()>
     requires { (levels ≤ 256) × (512 ≤ length text.old) }
 {
     let mut words = [7u32; 514 * RECORD_WORDS];
@@ -36,32 +37,38 @@ fn say_levels(what: &[u8], levels: usize, text: &mut [u8])
     let end = 2 * levels;
     fill(&mut text[0..levels], 91);
     fill(&mut text[levels..end], 93);
-    say_answer(what, scan(&text[0..end], &mut words, &mut bytes));
+    say_answer(rt, what, scan(&text[0..end], &mut words, &mut bytes))
 }
 
-fn say_version(what: &[u8], text: &[u8]) {
+fn say_version(rt: &HostRuntime, what: &[u8], text: &[u8]) -> io::Result<()> {
     let mut words = [7u32; 3 * RECORD_WORDS];
     let mut bytes = [7u8; 1];
-    say_answer(what, scan(text, &mut words, &mut bytes));
+    say_answer(rt, what, scan(text, &mut words, &mut bytes))
 }
 
 // A plain scalar of so many bytes, in room for three records.
-fn say_plain(what: &[u8], size: usize, text: &mut [u8], bytes: &mut [u8])
+fn say_plain(
+    rt: &HostRuntime,
+    what: &[u8],
+    size: usize,
+    text: &mut [u8],
+    bytes: &mut [u8],
+) -> io::Result<()>
     requires { size ≤ length text.old }
 {
     let mut words = [7u32; 3 * RECORD_WORDS];
     fill(&mut text[0..size], 97);
-    say_answer(what, scan(&text[0..size], &mut words, bytes));
+    say_answer(rt, what, scan(&text[0..size], &mut words, bytes))
 }
 
 // For each limit `T D`, or the refusal's number and mark.
-pub(crate) fn say_limits(text: &mut [u8], bytes: &mut [u8])
+pub(crate) fn say_limits(rt: &HostRuntime, text: &mut [u8], bytes: &mut [u8]) -> io::Result<()>
     requires { 1_048_577 ≤ length text.old }
 {
-    io::write_all(STDOUT_FILENO, b"limits: T and D, or refusal and mark\n");
-    say_levels(b"255 levels: ", 255, text);
-    say_levels(b"256 levels: ", 256, text);
-    say_version(b"%YAML 999999999.0: ", b"%YAML 999999999.0");
-    say_plain(b"1,048,576 bytes: ", 1048576, text, bytes);
-    say_plain(b"1,048,577 bytes: ", 1048577, text, bytes);
+    rt.write_all(b"limits: T and D, or refusal and mark\n")?;
+    say_levels(rt, b"255 levels: ", 255, text)?;
+    say_levels(rt, b"256 levels: ", 256, text)?;
+    say_version(rt, b"%YAML 999999999.0: ", b"%YAML 999999999.0")?;
+    say_plain(rt, b"1,048,576 bytes: ", 1048576, text, bytes)?;
+    say_plain(rt, b"1,048,577 bytes: ", 1048577, text, bytes)
 }

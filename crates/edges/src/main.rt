@@ -8,16 +8,17 @@ ghost use Rattle.std.specs.Prelude.{◌≤◌, length};
 
 use crate::limits::say_limits;
 use crate::rooms::say_rooms;
+use std::io;
 
-fn say_edges(space: &mut [u8], bytes: &mut [u8])
+fn say_edges(rt: &HostRuntime, space: &mut [u8], bytes: &mut [u8]) -> io::Result<()>
     requires { 1_048_577 ≤ length space.old }
 {
-    say_rooms(space);
-    say_limits(space, bytes);
+    say_rooms(rt, space)?;
+    say_limits(rt, space, bytes)
 }
 
-fn main() {
+fn main(rt: HostRuntime) -> io::Result<()> {
     let mut space = [0u8; 1048577];
     let mut bytes = [7u8; 1048576];
-    say_edges(&mut space, &mut bytes);
+    say_edges(&rt, &mut space, &mut bytes)
 }

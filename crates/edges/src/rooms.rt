@@ -1,12 +1,12 @@
 // Each text of the vectors in rooms that are too small.
 ghost use Rattle.std.specs.Prelude.{◌<◌, ◌^◌, ◌≤◌, length};
 
-use libc::{STDIN_FILENO, STDOUT_FILENO};
 use printing::say_numbers;
 use records::RECORD_WORDS;
 use scanner::scan;
+use std::io;
 use tokenglade::numbers_of;
-use vectors::{enough_words, line_end, read_hex};
+use vectors::{enough_words, line_end, read_hex, read_input};
 
 // How often a room was lent, how often the answer was the one expected, and how many words and bytes were not zero then.
 #[derive(Clone, Copy)]
@@ -195,24 +195,22 @@ fn in_small_rooms(s: &[u8], words: &mut [u32], bytes: &mut [u8], room: Small) ->
 }
 
 // Rooms hold what the text before left there.
-fn say_room(what: &[u8], s: &[u8], room: Small) {
+fn say_room(rt: &HostRuntime, what: &[u8], s: &[u8], room: Small) -> io::Result<()> {
     let mut words = [7u32; 8195 * RECORD_WORDS];
     let mut bytes = [7u8; 6144];
     let n = in_small_rooms(s, &mut words, &mut bytes, room);
-    io::write_all(STDOUT_FILENO, what);
-    say_numbers(&[n.lent, n.as_expected, n.words, n.bytes], 10);
+    rt.write_all(what)?;
+    say_numbers(rt, &[n.lent, n.as_expected, n.words, n.bytes], 10)?;
+    Ok(())
 }
 
 // The vectors come from standard input.
-pub(crate) fn say_rooms(space: &mut [u8]) {
-    let n = io::read_full(STDIN_FILENO, space);
+pub(crate) fn say_rooms(rt: &HostRuntime, space: &mut [u8]) -> io::Result<()> {
+    let n = read_input(rt, space)?;
     let s = &space[0..n];
-    io::write_all(
-        STDOUT_FILENO,
-        b"rooms: lent, answered as expected, words and bytes not zero\n",
-    );
-    say_room(b"nothing: ", s, Small::Nothing);
-    say_room(b"no words: ", s, Small::NoWords);
-    say_room(b"a record less: ", s, Small::RecordLess);
-    say_room(b"a byte less: ", s, Small::ByteLess);
+    rt.write_all(b"rooms: lent, answered as expected, words and bytes not zero\n")?;
+    say_room(rt, b"nothing: ", s, Small::Nothing)?;
+    say_room(rt, b"no words: ", s, Small::NoWords)?;
+    say_room(rt, b"a record less: ", s, Small::RecordLess)?;
+    say_room(rt, b"a byte less: ", s, Small::ByteLess)
 }

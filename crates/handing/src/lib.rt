@@ -5,6 +5,7 @@ pub mod progress;
 
 ghost use Rattle.std.specs.Prelude.{◌+◌, ◌≤◌, length};
 
+use outlets::Outlet;
 use printing::put_numbers;
 
 // The longest line.
@@ -18,7 +19,7 @@ pub struct Waiting {
 }
 
 // Room for a line: what waits is written where there is none.
-fn make_room(fd: i32, room: &[u8], n: usize) -> Waiting
+fn make_room(to: &mut Outlet, room: &[u8], n: usize) -> Waiting
     requires { (n ≤ length room.now) × (11 ≤ length room.now) }
     ensures { result.used + 11 ≤ length room.now }
 {
@@ -28,18 +29,18 @@ fn make_room(fd: i32, room: &[u8], n: usize) -> Waiting
             good: true,
         };
     }
-    let good = io::write_all(fd, &room[..n]);
+    let good = to.put(&room[..n]);
     Waiting {
         used: 0,
         good: good,
     }
 }
 
-pub fn put_seed(fd: i32, room: &mut [u8], n: usize, value: u32) -> Waiting
+pub fn put_seed(to: &mut Outlet, room: &mut [u8], n: usize, value: u32) -> Waiting
     requires { (n ≤ length room.old) × (11 ≤ length room.old) × (length room.old ≤ 65_536) }
     ensures { result.used ≤ length room.old }
 {
-    let w = make_room(fd, room, n);
+    let w = make_room(to, room, n);
     let next = put_numbers(room, w.used, &[value], b'\n', b'\n');
     Waiting {
         used: next,

@@ -1,44 +1,51 @@
 // How far a long job is, on a terminal.
-use libc::STDERR_FILENO;
+use outlets::say;
+use std::io::IsTerminal;
+use std::rt::Clock;
 
 // Whether standard error is a terminal; the latest second; whether a second has begun since the start; whether a line stands on the terminal.
 #[derive(Clone, Copy)]
 pub struct Progress {
     on: bool,
-    second: i64,
+    second: u64,
     begun: bool,
     shown: bool,
 }
 
-fn this_second() -> i64 {
-    let mut t: i64 = 0;
-    libc::time(&mut t)
+// 0 where there is no clock.
+fn this_second(rt: &HostRuntime) -> u64 {
+    match rt.since_1970() {
+        Ok(time) => time.as_secs(),
+        Err(_) => 0,
+    }
 }
 
-pub fn start() -> Progress {
+pub fn start(rt: &HostRuntime) -> Progress {
     Progress {
-        on: libc::isatty(STDERR_FILENO) == 1,
-        second: this_second(),
+        on: rt.stderr().is_terminal(),
+        second: this_second(rt),
         begun: false,
         shown: false,
     }
 }
 
 // To the start of the line, and nothing behind it.
-fn clear_line() {
-    io::write_all(STDERR_FILENO, &[b'\r', 27, b'[', b'K']);
+fn clear_line(rt: &HostRuntime) {
+    say(rt, &[b'\r', 27, b'[', b'K']);
 }
 
-fn show(count: u32) {
-    clear_line();
-    io::print_decimal(STDERR_FILENO, count as u64);
-    io::write_all(STDERR_FILENO, b" seeds so far");
+fn show(rt: &HostRuntime, count: u32) {
+    clear_line(rt);
+    let mut space = [0u8; 20];
+    let n = io::decimal(count as u64, &mut space);
+    say(rt, &space[..n]);
+    say(rt, b" seeds so far");
 }
 
 // In the first second that begins nothing is shown: the start may be right before it.
-fn next_second(p: Progress, second: i64, count: u32) -> Progress {
+fn next_second(rt: &HostRuntime, p: Progress, second: u64, count: u32) -> Progress {
     if p.begun {
-        show(count);
+        show(rt, count);
     }
     Progress {
         on: true,
@@ -49,22 +56,22 @@ fn next_second(p: Progress, second: i64, count: u32) -> Progress {
 }
 
 // The clock is read once in 1,024 seeds.
-pub fn tell(p: Progress, count: u32) -> Progress {
+pub fn tell(rt: &HostRuntime, p: Progress, count: u32) -> Progress {
     if !p.on {
         return p;
     }
     if count % 1024 != 0 {
         return p;
     }
-    let second = this_second();
+    let second = this_second(rt);
     if second == p.second {
         return p;
     }
-    next_second(p, second, count)
+    next_second(rt, p, second, count)
 }
 
-pub fn end(p: Progress) {
+pub fn end(rt: &HostRuntime, p: Progress) {
     if p.shown {
-        clear_line();
+        clear_line(rt);
     }
 }

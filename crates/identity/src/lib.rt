@@ -1,11 +1,10 @@
 // Which file it is that a name stands for.
 #![tactic(auto)]
 
-ghost use Rattle.libc.specs.Io.{Ended};
-
-use libc::PATH_MAX;
-use libc::types::{stat, timespec};
-use rooms::copy;
+use outlets::path;
+use std::fs::Metadata;
+use std::os::unix::fs::MetadataExt;
+use std::{fs, io};
 
 // The file, where there is one: its device and its number there, and its kind.
 #[derive(Clone, Copy)]
@@ -16,77 +15,51 @@ pub struct Identity {
     pub mode: u32,
 }
 
-fn no_time() -> timespec {
-    timespec {
-        tv_sec: 0,
-        tv_nsec: 0,
-    }
-}
+// Of a mode, the bits that say of which kind a file is; and those of an ordinary one.
+const KIND_BITS: u32 = 0o170000;
 
-fn no_stat() -> stat {
-    stat {
-        st_dev: 0,
-        st_ino: 0,
-        st_nlink: 0,
-        st_mode: 0,
-        st_uid: 0,
-        st_gid: 0,
-        __pad: 0,
-        st_rdev: 0,
-        st_size: 0,
-        st_blksize: 0,
-        st_blocks: 0,
-        st_atim: no_time(),
-        st_mtim: no_time(),
-        st_ctim: no_time(),
-        __unused: [0; 3],
-    }
-}
+const ORDINARY: u32 = 0o100000;
 
-fn identity_of(status: i32, s: stat) -> Identity {
+fn identity_of(m: Metadata) -> Identity {
     Identity {
-        found: status == 0,
-        device: s.st_dev,
-        number: s.st_ino,
-        mode: s.st_mode,
+        found: true,
+        device: m.dev(),
+        number: m.ino(),
+        mode: m.mode(),
     }
 }
 
-// The one function here that lends a struct.
-fn of_path(path: &[u8; PATH_MAX]) -> Identity
-    requires { Ended path.now }
-{
-    let mut s = no_stat();
-    let status = libc::stat(path, &mut s);
-    identity_of(status, s)
-}
-
-// A name of at most 4,095 bytes, as C reads it.
-fn path_of(name: &[u8]) -> [u8; PATH_MAX]
-    ensures { Ended result }
-{
-    let mut path = io::buffer();
-    copy(&mut path, 0, name);
-    path[PATH_MAX - 1] = 0;
-    path
-}
-
-// The file behind a link. A name that is too long stands for none.
-pub fn of_name(name: &[u8]) -> Identity {
-    if PATH_MAX <= name.len() {
-        return identity_of(-1, no_stat());
+// No file.
+fn none() -> Identity {
+    Identity {
+        found: false,
+        device: 0,
+        number: 0,
+        mode: 0,
     }
-    let path = path_of(name);
-    of_path(&path)
 }
 
-pub fn is_link(name: &[u8]) -> bool {
-    if PATH_MAX <= name.len() {
-        return false;
+fn metadata(rt: &HostRuntime, name: &[u8]) -> io::Result<Metadata> {
+    fs::metadata(rt, path(name)?)
+}
+
+fn own_metadata(rt: &HostRuntime, name: &[u8]) -> io::Result<Metadata> {
+    fs::symlink_metadata(rt, path(name)?)
+}
+
+// The file behind a link. A name that is too long, or no text, stands for none.
+pub fn of_name(rt: &HostRuntime, name: &[u8]) -> Identity {
+    match metadata(rt, name) {
+        Ok(m) => identity_of(m),
+        Err(_) => none(),
     }
-    let path = path_of(name);
-    let mut room = [0u8; 1];
-    libc::readlink(&path, &mut room) >= 0
+}
+
+pub fn is_link(rt: &HostRuntime, name: &[u8]) -> bool {
+    match own_metadata(rt, name) {
+        Ok(m) => m.is_symlink(),
+        Err(_) => false,
+    }
 }
 
 // Whether both are there, and one file.
@@ -100,7 +73,7 @@ pub fn is_same(a: Identity, b: Identity) -> bool {
 // Whether it is there and is no ordinary file: a folder, a device, a pipe.
 pub fn is_special(a: Identity) -> bool {
     if a.found {
-        return a.mode & libc::S_IFMT != libc::S_IFREG;
+        return a.mode & KIND_BITS != ORDINARY;
     }
     false
 }

@@ -7,7 +7,7 @@ use Rattle.yaml_stream.specs.Calls.{built_few}
 use Rattle.yaml_stream.specs.Tale.{built}
 use Rattle.yaml_job.specs.declared.JobAnswer.TheVariants.{Closed, Lost}
 use Rattle.yaml_job.specs.Job.{Talk, follow, job}
-use Rattle.yaml_job.specs.Done.{job_closes}
+use Rattle.yaml_job.proofs.Done.{job_closes}
 use Rattle.job.specs.JobRun.{JobGave}
 use Rattle.jobs.specs.Closes.{most_calls}
 

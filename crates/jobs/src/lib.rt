@@ -14,10 +14,11 @@ use crate::old::{remove_old, would_lose, would_mix};
 use crate::output::{begin_output, drop_output};
 use crate::run::run_text;
 use arguments::word::is;
+use arguments::word::MOST_WORD;
 use arguments::{Plan, name_at};
-use libc::STDERR_FILENO;
+use outlets::say;
 use saving::{Begun, NAME_ROOM, is_place};
-use sheets::{Sheet, fail_sheet, open_sheet, read_sheet};
+use sheets::{Sheet, Source, open_sheet, read_sheet};
 use usage::say_wrong;
 use usage::status::{UNREAD, UNWRITTEN};
 
@@ -26,6 +27,7 @@ const MOST_TEXT: usize = 1_048_576;
 
 // A room that is full holds more bytes than a sheet may have, and the reader refuses them. A smaller room may hold only a part of the sheet.
 fn run_full(
+    rt: &HostRuntime,
     sheet: &[u8],
     record: &[u8],
     seeds: &[u8],
@@ -40,17 +42,18 @@ fn run_full(
 {
     if MOST_TEXT < text.len() {
         return run_text(
-            sheet, record, seeds, allowed, begun, own, text, words, bytes,
+            rt, sheet, record, seeds, allowed, begun, own, text, words, bytes,
         );
     }
-    drop_output(seeds, begun, own);
-    io::write_all(STDERR_FILENO, b"tokenglade: no room for the sheet\n");
+    drop_output(rt, seeds, begun, own);
+    say(rt, b"tokenglade: no room for the sheet\n");
     UNREAD
 }
 
 // Reads the sheet, and runs the job that it is.
 fn run_read(
-    fd: i32,
+    rt: &HostRuntime,
+    from: &mut Source,
     sheet: &[u8],
     record: &[u8],
     seeds: &[u8],
@@ -63,9 +66,10 @@ fn run_read(
 ) -> u8
     ensures { ReadAnswers text.new (length words.old) (length bytes.old) allowed result }
 {
-    let read = read_sheet(fd, text);
+    let read = read_sheet(rt, sheet, from, text);
     match read {
         Sheet::Whole(n) => run_text(
+            rt,
             sheet,
             record,
             seeds,
@@ -77,11 +81,10 @@ fn run_read(
             bytes,
         ),
         Sheet::Full => run_full(
-            sheet, record, seeds, allowed, begun, own, text, words, bytes,
+            rt, sheet, record, seeds, allowed, begun, own, text, words, bytes,
         ),
         Sheet::Broken => {
-            fail_sheet(sheet);
-            drop_output(seeds, begun, own);
+            drop_output(rt, seeds, begun, own);
             UNREAD
         }
     }
@@ -89,7 +92,8 @@ fn run_read(
 
 // The sheet is open.
 fn run_open(
-    fd: i32,
+    rt: &HostRuntime,
+    mut from: Source,
     sheet: &[u8],
     record: &[u8],
     seeds: &[u8],
@@ -101,17 +105,16 @@ fn run_open(
     ensures { ReadAnswers text.new (length words.old) (length bytes.old) allowed result }
 {
     let mut own = [0u8; NAME_ROOM];
-    let begun = begin_output(seeds, &mut own);
-    if begun.fd < 0 {
+    let Some(begun) = begin_output(rt, seeds, &mut own) else {
         return UNWRITTEN;
-    }
-    if is_place(begun, &own, record) {
-        drop_output(seeds, begun, &own);
-        say_wrong(b"--record and --seeds name the same FILE");
+    };
+    if is_place(rt, &begun, &own, record) {
+        drop_output(rt, seeds, begun, &own);
+        say_wrong(rt, b"--record and --seeds name the same FILE");
         return UNREAD;
     }
     run_read(
-        fd, sheet, record, seeds, allowed, begun, &own, text, words, bytes,
+        rt, &mut from, sheet, record, seeds, allowed, begun, &own, text, words, bytes,
     )
 }
 
@@ -128,6 +131,7 @@ fn clash(sheet: &[u8], record: &[u8], seeds: &[u8]) -> bool {
 }
 
 fn run_named(
+    rt: &HostRuntime,
     sheet: &[u8],
     record: &[u8],
     seeds: &[u8],
@@ -139,40 +143,47 @@ fn run_named(
     ensures { ReadAnswers text.new (length words.old) (length bytes.old) allowed result }
 {
     if clash(sheet, record, seeds) {
-        say_wrong(b"SHEET and the FILEs of --record and --seeds must be different files");
+        say_wrong(rt, b"SHEET and the FILEs of --record and --seeds must be different files");
         return UNREAD;
     }
-    if would_lose(sheet, record, seeds) {
-        say_wrong(b"the sheet itself can't be the FILE of --record or --seeds");
+    if would_lose(rt, sheet, record, seeds) {
+        say_wrong(rt, b"the sheet itself can't be the FILE of --record or --seeds");
         return UNREAD;
     }
-    if would_mix(record, seeds) {
+    if would_mix(rt, record, seeds) {
         say_wrong(
+            rt,
             b"standard output or error goes to the FILE of --record or --seeds. Name another FILE",
         );
         return UNREAD;
     }
-    if !remove_old(record, seeds) {
+    if !remove_old(rt, record, seeds) {
         return UNWRITTEN;
     }
-    let fd = open_sheet(sheet);
-    if fd < 0 {
+    let Some(from) = open_sheet(rt, sheet) else {
         return UNREAD;
-    }
-    run_open(fd, sheet, record, seeds, allowed, text, words, bytes)
+    };
+    run_open(rt, from, sheet, record, seeds, allowed, text, words, bytes)
 }
 
 // Of a job that was run the status says what the definition does of the text that was read.
-pub fn run_plan(plan: Plan, text: &mut [u8], words: &mut [u32], bytes: &mut [u8]) -> u8
+pub fn run_plan(
+    rt: &HostRuntime,
+    plan: Plan,
+    text: &mut [u8],
+    words: &mut [u32],
+    bytes: &mut [u8],
+) -> u8
     ensures { ReadAnswers text.new (length words.old) (length bytes.old) plan.allowed result }
 {
-    let mut sheet = io::buffer();
-    let mut record = io::buffer();
-    let mut seeds = io::buffer();
-    let s = name_at(plan.sheet, &mut sheet);
-    let r = name_at(plan.record, &mut record);
-    let e = name_at(plan.seeds, &mut seeds);
+    let mut sheet = [0u8; MOST_WORD];
+    let mut record = [0u8; MOST_WORD];
+    let mut seeds = [0u8; MOST_WORD];
+    let s = name_at(rt, plan.sheet, &mut sheet);
+    let r = name_at(rt, plan.record, &mut record);
+    let e = name_at(rt, plan.seeds, &mut seeds);
     run_named(
+        rt,
         &sheet[..s],
         &record[..r],
         &seeds[..e],

@@ -12,11 +12,16 @@ ghost use Rattle.scanner.specs.Promise.{verdict_of};
 ghost use Rattle.sheets.specs.Sheet.{Within};
 ghost use Rattle.listing.specs.Sheet.{Lists};
 
-use libc::{STDIN_FILENO, STDOUT_FILENO};
+use arguments::count;
+use arguments::word::MOST_WORD;
+use outlets::{Outlet, fail};
 use printing::{put_numbers, put_records};
 use records::RECORD_WORDS;
 use scanner::{Answer, scan_with};
-use sheets::{Sheet, read_sheet};
+use sheets::{Sheet, Source, open_file, read_sheet};
+use std::env::FillError;
+use std::io;
+use std::rt::Env;
 use yaml_scan::Limits;
 
 // The listing of an answer, with what the words hold; how long it is.
@@ -67,66 +72,79 @@ fn list_read(room: &[u8], read: Sheet, out: &mut [u8]) -> usize
 }
 
 // Writes the listing of what was read; a write that fails is told on standard error.
-fn write_listing(room: &[u8], read: Sheet)
+fn write_listing(rt: &HostRuntime, room: &[u8], read: Sheet)
     requires { (513 ≤ length room.now) × Within (length room.now) read }
 {
     let mut out = [0u8; 113014];
     let n = list_read(room, read, &mut out);
-    if io::write_all(STDOUT_FILENO, &out[0..n]) {
+    let mut to = Outlet::output(rt);
+    if to.put(&out[0..n]) {
         return;
     }
-    os::fail(b"standard output");
+    to.fail(rt, b"standard output");
 }
 
-// Lists the sheet that a descriptor reads. Of a part of one nothing is listed, and standard error has its name and what failed.
-fn list_sheet(fd: i32, name: &[u8]) {
+// Lists the sheet that is read from a source. Of a part of one nothing is listed, and standard error has its name and what failed.
+fn list_sheet(rt: &HostRuntime, name: &[u8], from: &mut Source) {
     let mut room = [0u8; 513];
-    let read = read_sheet(fd, &mut room);
+    let read = read_sheet(rt, name, from, &mut room);
     match read {
-        Sheet::Broken => os::fail(name),
-        _ => write_listing(&room, read),
+        Sheet::Broken => {}
+        _ => write_listing(rt, &room, read),
     }
+}
+
+// Lists standard input.
+fn list_input(rt: &HostRuntime) {
+    list_sheet(rt, b"", &mut Source::Input(rt.stdin()));
 }
 
 // Lists the sheet that a file holds.
-fn list_file(name: &[u8]) {
-    let fd = os::open_read(name);
-    if fd < 0 {
-        os::fail(name);
-        return;
+fn list_file(rt: &HostRuntime, name: &[u8]) {
+    match open_file(rt, name) {
+        Some(mut from) => list_sheet(rt, name, &mut from),
+        None => {}
     }
-    list_sheet(fd, name);
-    libc::close(fd);
+}
+
+// The system's numbers of what is wrong with an argument: EINVAL where it is missing, ENAMETOOLONG where it is too long.
+fn why(e: FillError) -> io::Error {
+    match e {
+        FillError::NotPresent => io::Error::from_raw_os_error(22),
+        FillError::TooLong => io::Error::from_raw_os_error(36),
+    }
 }
 
 // Lists the sheet that an argument names.
-fn list_argument(i: usize) {
-    let mut space = io::buffer();
-    let n = os::arg(i, &mut space);
-    if os::errno() != 0 {
-        os::fail(b"argument");
-        return;
+fn list_argument(rt: &HostRuntime, i: usize) {
+    let mut space = [0u8; MOST_WORD];
+    match rt.arg(i, &mut space) {
+        Ok(n) => list_named(rt, &space[..n]),
+        Err(e) => fail(rt, b"argument", why(e)),
     }
-    if n == 1 && space[0] == b'-' {
-        list_sheet(STDIN_FILENO, b"standard input");
-        return;
-    }
-    list_file(&space[..n]);
 }
 
-fn list_arguments(count: usize) {
+fn list_named(rt: &HostRuntime, name: &[u8]) {
+    if name.len() == 1 && name[0] == b'-' {
+        list_input(rt);
+        return;
+    }
+    list_file(rt, name);
+}
+
+fn list_arguments(rt: &HostRuntime, count: usize) {
     let mut i = 1;
     while i < count {
-        list_argument(i);
+        list_argument(rt, i);
         i += 1;
     }
 }
 
-fn main() {
-    let count = os::arg_count();
+fn main(rt: HostRuntime) {
+    let count = count(&rt);
     if count < 2 {
-        list_sheet(STDIN_FILENO, b"standard input");
+        list_input(&rt);
         return;
     }
-    list_arguments(count);
+    list_arguments(&rt, count);
 }

@@ -18,7 +18,14 @@ fn named_open(number: u32, text: &[u8], words: &mut [u32], bytes: &mut [u8]) -> 
 }
 
 // Writes a refusal in words on standard error. An empty name, or `-`, is standard input. The rooms are used again, as by whoever scanned the text.
-pub fn say_refusal(name: &[u8], text: &[u8], f: Refusal, words: &mut [u32], bytes: &mut [u8]) {
+pub fn say_refusal(
+    rt: &HostRuntime,
+    name: &[u8],
+    text: &[u8],
+    f: Refusal,
+    words: &mut [u32],
+    bytes: &mut [u8],
+) {
     let open = named_open(f.number, text, words, bytes);
-    say(name, text, f, open);
+    say(rt, name, text, f, open);
 }

@@ -1,14 +1,13 @@
 // Numbers as text, and the lines of records.
 #![tactic(auto)]
 
-ghost use Rattle.std.specs.Prelude.{◌≡◌, ◌*◌, ◌+◌, ◌<◌, ◌^◌, ◌≤◌, eqb, drop, length, take};
+ghost use Rattle.std.specs.Prelude.{◌≡◌, ◌*◌, ◌+◌, ◌<◌, ◌^◌, ◌≤◌, IfOk, eqb, drop, length, take};
 ghost use Rattle.yaml_text.specs.Pick.{pick};
 ghost use Rattle.yaml_lexeme.specs.Record.{record_words};
 ghost use Rattle.printing.specs.Lines.{lines_text, number_text, numbers_line};
 ghost use Rattle.printing.specs.Listing.{listed, token_lines};
 ghost use Rattle.printing.specs.Written.{Written};
 
-use libc::STDOUT_FILENO;
 use records::RECORD_WORDS;
 use rooms::{copy, put};
 
@@ -48,14 +47,14 @@ pub fn put_numbers(out: &mut [u8], at: usize, numbers: &[u32], between: u8, end:
 }
 
 // Writes numbers on standard output, with blanks between and a byte at the end; how many bytes that are.
-pub fn say_numbers(numbers: &[u32], end: u8) -> usize
+pub fn say_numbers(rt: &HostRuntime, numbers: &[u32], end: u8) -> std::io::Result<usize>
     requires { length numbers.now ≤ record_words }
-    ensures { result ≡ length (numbers_line 32 end numbers.now) }
+    ensures { IfOk result (λ n. n ≡ length (numbers_line 32 end numbers.now)) }
 {
     let mut space = [0u8; 11 * RECORD_WORDS];
     let n = put_numbers(&mut space, 0, numbers, 32, end);
-    io::write_all(STDOUT_FILENO, &space[0..n]);
-    n
+    rt.write_all(&space[0..n])?;
+    Ok(n)
 }
 
 // Kind, six mark numbers, style, words 9 and 11 (counted from 1) of the record at a place.

@@ -13,7 +13,7 @@ use Rattle.yaml_text.specs.Class.{is_blank, is_break, peek}
 use Rattle.yaml_text.specs.Mark.{along, along_by, edge_of, here}
 use Rattle.yaml_text.specs.Test.{both_true}
 use Rattle.yaml_text.specs.Utf8.{char_bytes, chars, encode}
-use Rattle.yaml_text.specs.Utf8Laws.{first_bytes}
+use Rattle.yaml_text.proofs.Utf8Laws.{first_bytes}
 use Rattle.yaml_lexeme.specs.Quoted.{chars_of}
 use Rattle.chars.specs.declared.mark.Place.{Place}
 use Rattle.chars.specs.Bytes.{CharAt, eq_at, eq_char}

@@ -6,10 +6,12 @@ ghost use Rattle.printing.specs.Written.{Written};
 ghost use Rattle.vectors.specs.Vector.{vector_line};
 ghost use Rattle.replay.specs.Replay.{line_again, longest};
 
-use libc::{STDIN_FILENO, STDOUT_FILENO};
 use records::RECORD_WORDS;
 use scanner::{Answer, scan};
-use vectors::{enough_words, line_end, put_accepted, put_head, put_refused, read_hex};
+use std::io;
+use vectors::{
+    enough_words, line_end, put_accepted, put_head, put_refused, read_hex, read_input,
+};
 
 // The line of a text; how long it is.
 fn put_vector(out: &mut [u8], text: &[u8], words: &mut [u32], bytes: &mut [u8]) -> usize
@@ -36,37 +38,56 @@ fn put_line(out: &mut [u8], line: &[u8], words: &mut [u32], bytes: &mut [u8]) ->
     put_vector(out, &space[0..n], &mut words[0..room], bytes)
 }
 
-fn replay_line(line: &[u8], words: &mut [u32], bytes: &mut [u8], out: &mut [u8])
+fn replay_line(
+    rt: &HostRuntime,
+    line: &[u8],
+    words: &mut [u32],
+    bytes: &mut [u8],
+    out: &mut [u8],
+) -> io::Result<()>
     requires { longest 40_960 (length words.old) (length bytes.old) ≤ length out.old }
 {
     let n = put_line(out, line, words, bytes);
-    io::write_all(STDOUT_FILENO, &out[0..n]);
+    rt.write_all(&out[0..n])
 }
 
 // The rooms hold what the text before left there.
-fn replay_all(s: &[u8], words: &mut [u32], bytes: &mut [u8], out: &mut [u8])
+fn replay_all(
+    rt: &HostRuntime,
+    s: &[u8],
+    words: &mut [u32],
+    bytes: &mut [u8],
+    out: &mut [u8],
+) -> io::Result<()>
     requires { longest 40_960 (length words.old) (length bytes.old) ≤ length out.old }
 {
     let mut at = 0;
     while at < s.len() {
         let end = line_end(s, at);
-        replay_line(&s[at..end], words, bytes, out);
+        replay_line(rt, &s[at..end], words, bytes, out)?;
         at = end + 1;
     }
+    Ok(())
 }
 
 // The vectors go into a room of their own, which holds the whole file.
-fn replay_input(space: &mut [u8], words: &mut [u32], bytes: &mut [u8], out: &mut [u8])
+fn replay_input(
+    rt: &HostRuntime,
+    space: &mut [u8],
+    words: &mut [u32],
+    bytes: &mut [u8],
+    out: &mut [u8],
+) -> io::Result<()>
     requires { longest 40_960 (length words.old) (length bytes.old) ≤ length out.old }
 {
-    let n = io::read_full(STDIN_FILENO, space);
-    replay_all(&space[0..n], words, bytes, out);
+    let n = read_input(rt, space)?;
+    replay_all(rt, &space[0..n], words, bytes, out)
 }
 
-fn main() {
+fn main(rt: HostRuntime) -> io::Result<()> {
     let mut space = [0u8; 1048576];
     let mut words = [7u32; 8195 * RECORD_WORDS];
     let mut bytes = [7u8; 6144];
     let mut out = [0u8; 1175998];
-    replay_input(&mut space, &mut words, &mut bytes, &mut out);
+    replay_input(&rt, &mut space, &mut words, &mut bytes, &mut out)
 }

@@ -1,63 +1,68 @@
 // The seeds and the closing record of a job, written as a line of vectors has them.
 use job::{JOB_WORDS, next_seed};
-use libc::STDOUT_FILENO;
 use printing::say_numbers;
+use std::io;
 use yaml_job::{Closing, JobAnswer};
 
 // Writes a seed and its count, with a comma before it unless it is the first.
-fn say_seed(value: u32, count: u32) {
+fn say_seed(rt: &HostRuntime, value: u32, count: u32) -> io::Result<()> {
     if count != 1 {
-        io::write_all(STDOUT_FILENO, b",");
+        rt.write_all(b",")?;
     }
-    io::print_decimal(STDOUT_FILENO, value as u64);
-    io::write_all(STDOUT_FILENO, b":");
-    io::print_decimal(STDOUT_FILENO, count as u64);
+    print!(rt; "{value}:{count}")
 }
 
-fn say_closing(c: Closing) {
+fn say_closing(rt: &HostRuntime, c: Closing) -> io::Result<()> {
     match c {
         Closing::Done { count } => {
-            io::write_all(STDOUT_FILENO, b"|done ");
-            say_numbers(&[count], 10);
+            rt.write_all(b"|done ")?;
+            say_numbers(rt, &[count], 10)?;
         }
         Closing::NotDone {
             number,
             mark,
             count,
         } => {
-            io::write_all(STDOUT_FILENO, b"|not ");
-            say_numbers(&[number, mark.index, mark.line, mark.col, count], 10);
+            rt.write_all(b"|not ")?;
+            say_numbers(rt, &[number, mark.index, mark.line, mark.col, count], 10)?;
         }
     }
+    Ok(())
 }
 
 // Whether the answer was a seed.
-fn say_answer(a: JobAnswer) -> bool {
+fn say_answer(rt: &HostRuntime, a: JobAnswer) -> io::Result<bool> {
     match a {
         JobAnswer::Seed { value, count } => {
-            say_seed(value, count);
-            true
+            say_seed(rt, value, count)?;
+            Ok(true)
         }
         JobAnswer::Closed(c) => {
-            say_closing(c);
-            false
+            say_closing(rt, c)?;
+            Ok(false)
         }
         JobAnswer::Lost => {
-            io::write_all(STDOUT_FILENO, b"|lost\n");
-            false
+            rt.write_all(b"|lost\n")?;
+            Ok(false)
         }
     }
 }
 
 // A seed has a character at least, so that the last of so many calls hands over none.
-pub(crate) fn say_job(text: &[u8], words: &mut [u32], bytes: &mut [u8]) {
+pub(crate) fn say_job(
+    rt: &HostRuntime,
+    text: &[u8],
+    words: &mut [u32],
+    bytes: &mut [u8],
+) -> io::Result<()> {
     let mut state = [0u32; JOB_WORDS];
     let mut i = 0;
     while i <= text.len() {
         let a = next_seed(&mut state, text, words, bytes);
-        if !say_answer(a) {
-            return;
+        if !say_answer(rt, a)? {
+            return Ok(());
         }
         i += 1;
     }
+    Ok(())
 }

@@ -10,11 +10,11 @@ ghost use Rattle.std.specs.Prelude.{◌<◌, ◌^◌, ◌≤◌, length};
 
 use handed::say_job;
 use head::{least, number_end, read_number};
-use libc::{STDIN_FILENO, STDOUT_FILENO};
 use records::RECORD_WORDS;
+use std::io;
 use stream::LEAST_RECORDS;
 use taken::say_taken;
-use vectors::{line_end, read_hex};
+use vectors::{line_end, read_hex, read_input};
 
 // The longest text, and the most bytes that are lent to it.
 const MOST_TEXT: usize = 10_752;
@@ -47,17 +47,28 @@ fn read_asked(line: &[u8], text: &mut [u8], words: usize, bytes: usize) -> Asked
 }
 
 // What taking the tokens of a text gives, or the job that it is.
-fn say_text(text: &[u8], words: &mut [u32], bytes: &mut [u8], job: bool)
+fn say_text(
+    rt: &HostRuntime,
+    text: &[u8],
+    words: &mut [u32],
+    bytes: &mut [u8],
+    job: bool,
+) -> io::Result<()>
     requires { (length text.now < 2 ^ 30) × (length bytes.old ≤ 16_128) }
 {
     if job {
-        say_job(text, words, bytes);
+        say_job(rt, text, words, bytes)
     } else {
-        say_taken(text, words, bytes);
+        say_taken(rt, text, words, bytes)
     }
 }
 
-fn restream_line(line: &[u8], words: &mut [u32], bytes: &mut [u8])
+fn restream_line(
+    rt: &HostRuntime,
+    line: &[u8],
+    words: &mut [u32],
+    bytes: &mut [u8],
+) -> io::Result<()>
     requires { length bytes.old ≤ 16_128 }
 {
     let mut space = [0u8; MOST_TEXT];
@@ -65,34 +76,45 @@ fn restream_line(line: &[u8], words: &mut [u32], bytes: &mut [u8])
     let n = h.size;
     let w = h.words;
     let b = h.bytes;
-    io::write_all(STDOUT_FILENO, line);
-    io::write_all(STDOUT_FILENO, b" => ");
-    say_text(&space[0..n], &mut words[0..w], &mut bytes[0..b], h.job);
+    rt.write_all(line)?;
+    rt.write_all(b" => ")?;
+    say_text(rt, &space[0..n], &mut words[0..w], &mut bytes[0..b], h.job)
 }
 
 // The rooms hold what the text before left there.
-fn restream_all(s: &[u8], words: &mut [u32], bytes: &mut [u8])
+fn restream_all(
+    rt: &HostRuntime,
+    s: &[u8],
+    words: &mut [u32],
+    bytes: &mut [u8],
+) -> io::Result<()>
     requires { length bytes.old ≤ 16_128 }
 {
     let mut at = 0;
     while at < s.len() {
         let end = line_end(s, at);
-        restream_line(&s[at..end], words, bytes);
+        restream_line(rt, &s[at..end], words, bytes)?;
         at = end + 1;
     }
+    Ok(())
 }
 
 // The lines go into a room of their own, which holds the whole file.
-fn restream_input(space: &mut [u8], words: &mut [u32], bytes: &mut [u8])
+fn restream_input(
+    rt: &HostRuntime,
+    space: &mut [u8],
+    words: &mut [u32],
+    bytes: &mut [u8],
+) -> io::Result<()>
     requires { length bytes.old ≤ 16_128 }
 {
-    let n = io::read_full(STDIN_FILENO, space);
-    restream_all(&space[0..n], words, bytes);
+    let n = read_input(rt, space)?;
+    restream_all(rt, &space[0..n], words, bytes)
 }
 
-fn main() {
+fn main(rt: HostRuntime) -> io::Result<()> {
     let mut space = [0u8; 655360];
     let mut words = [7u32; LEAST_RECORDS * RECORD_WORDS];
     let mut bytes = [7u8; MOST_BYTES];
-    restream_input(&mut space, &mut words, &mut bytes);
+    restream_input(&rt, &mut space, &mut words, &mut bytes)
 }

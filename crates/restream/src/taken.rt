@@ -4,10 +4,10 @@ ghost use Rattle.std.specs.Prelude.{◌+◌, ◌<◌, ◌^◌, ◌≤◌, length
 use crate::MOST_BYTES;
 use crate::head::least;
 use driver::held::HELD_WORDS;
-use libc::STDOUT_FILENO;
 use printing::say_numbers;
 use records::RECORD_WORDS;
 use records::token::kind_number;
+use std::io;
 use stream::{Next, next_token};
 use vectors::{behind, put_hex};
 use yaml_lexeme::Kind;
@@ -58,114 +58,133 @@ fn used_behind(used: usize, token: [u32; RECORD_WORDS]) -> usize {
 }
 
 // Writes a record, and a byte behind it.
-fn say_record(token: [u32; RECORD_WORDS], end: u8) {
-    say_numbers(&token, end);
+fn say_record(rt: &HostRuntime, token: [u32; RECORD_WORDS], end: u8) -> io::Result<()> {
+    say_numbers(rt, &token, end)?;
+    Ok(())
 }
 
 // Writes the record of the next token, and a byte behind it; how many bytes hold the texts then.
 fn say_token(
+    rt: &HostRuntime,
     held: &mut [u32; HELD_WORDS],
     text: &[u8],
     words: &mut [u32],
     bytes: &mut [u8],
     used: usize,
     end: u8,
-) -> usize {
+) -> io::Result<usize> {
     let mut token = [0u32; RECORD_WORDS];
     next_token(held, text, words, bytes, &mut token);
-    say_record(token, end);
-    used_behind(used, token)
+    say_record(rt, token, end)?;
+    Ok(used_behind(used, token))
 }
 
 // Writes the records of n tokens; how many bytes hold their texts.
 fn say_tokens(
+    rt: &HostRuntime,
     held: &mut [u32; HELD_WORDS],
     text: &[u8],
     words: &mut [u32],
     bytes: &mut [u8],
     n: u32,
-) -> usize {
+) -> io::Result<usize> {
     let mut used = 0;
     let mut i: u32 = 0;
     while i < n {
-        used = say_token(held, text, words, bytes, used, behind(n - i - 1));
+        used = say_token(rt, held, text, words, bytes, used, behind(n - i - 1))?;
         i += 1;
     }
-    used
+    Ok(used)
 }
 
 // Writes bytes in hexadecimal.
-fn say_bytes(bytes: &[u8])
+fn say_bytes(rt: &HostRuntime, bytes: &[u8]) -> io::Result<()>
     requires { length bytes.now ≤ 16_128 }
 {
     let mut out = [0u8; 2 * MOST_BYTES];
     let n = put_hex(&mut out, 0, bytes);
-    io::write_all(STDOUT_FILENO, &out[0..n]);
+    rt.write_all(&out[0..n])
 }
 
 // Writes an answer that is no token.
-fn say_answer(a: Next, end: u8) {
+fn say_answer(rt: &HostRuntime, a: Next, end: u8) -> io::Result<()> {
     match a {
         Next::Refused(f) => {
             let m = f.mark;
-            io::write_all(STDOUT_FILENO, b"R ");
-            say_numbers(&[f.number, m.index, m.line, m.col], end);
+            rt.write_all(b"R ")?;
+            say_numbers(rt, &[f.number, m.index, m.line, m.col], end)?;
+            Ok(())
         }
-        _ => {
-            io::write_all(STDOUT_FILENO, &[b'E', end]);
-        }
+        _ => rt.write_all(&[b'E', end]),
     }
 }
 
 // Writes the answer of one more call.
 fn say_next(
+    rt: &HostRuntime,
     held: &mut [u32; HELD_WORDS],
     text: &[u8],
     words: &mut [u32],
     bytes: &mut [u8],
     end: u8,
-) {
+) -> io::Result<()> {
     let mut token = [0u32; RECORD_WORDS];
     let a = next_token(held, text, words, bytes, &mut token);
-    say_answer(a, end);
+    say_answer(rt, a, end)
 }
 
 // Writes how many tokens there are. Where there are some, the last record has the bar behind it.
-fn say_count(text: &[u8], words: &mut [u32], bytes: &mut [u8]) -> u32
+fn say_count(
+    rt: &HostRuntime,
+    text: &[u8],
+    words: &mut [u32],
+    bytes: &mut [u8],
+) -> io::Result<u32>
     requires { length text.now < 2 ^ 30 }
 {
     let n = count_tokens(text, words, bytes);
-    say_numbers(&[n], b'|');
+    say_numbers(rt, &[n], b'|')?;
     if n == 0 {
-        io::write_all(STDOUT_FILENO, b"|");
+        rt.write_all(b"|")?;
     }
-    n
+    Ok(n)
 }
 
 // Writes the bytes that hold the texts.
-fn say_used(bytes: &[u8], used: usize)
+fn say_used(rt: &HostRuntime, bytes: &[u8], used: usize) -> io::Result<()>
     requires { length bytes.now ≤ 16_128 }
 {
     let d = least(used, bytes.len());
-    say_bytes(&bytes[0..d]);
-    io::write_all(STDOUT_FILENO, b"|");
+    say_bytes(rt, &bytes[0..d])?;
+    rt.write_all(b"|")
 }
 
 // Writes n tokens and the answers of the next two calls.
-fn say_given(text: &[u8], words: &mut [u32], bytes: &mut [u8], n: u32)
+fn say_given(
+    rt: &HostRuntime,
+    text: &[u8],
+    words: &mut [u32],
+    bytes: &mut [u8],
+    n: u32,
+) -> io::Result<()>
     requires { length bytes.old ≤ 16_128 }
 {
     let mut held = [0u32; HELD_WORDS];
-    let used = say_tokens(&mut held, text, words, bytes, n);
-    say_used(bytes, used);
-    say_next(&mut held, text, words, bytes, b'|');
-    say_next(&mut held, text, words, bytes, 10);
+    let used = say_tokens(rt, &mut held, text, words, bytes, n)?;
+    say_used(rt, bytes, used)?;
+    say_next(rt, &mut held, text, words, bytes, b'|')?;
+    say_next(rt, &mut held, text, words, bytes, 10)
 }
 
 // The tokens are counted first, then taken again.
-pub(crate) fn say_taken(text: &[u8], words: &mut [u32], bytes: &mut [u8])
+pub(crate) fn say_taken(
+    rt: &HostRuntime,
+    text: &[u8],
+    words: &mut [u32],
+    bytes: &mut [u8],
+) -> io::Result<()>
     requires { (length text.now < 2 ^ 30) × (length bytes.old ≤ 16_128) }
 {
-    let n = say_count(text, words, bytes);
-    say_given(text, words, bytes, n);
+    let n = say_count(rt, text, words, bytes)?;
+    say_given(rt, text, words, bytes, n)
 }

@@ -15,7 +15,7 @@ use Rattle.yaml_text.specs.Char.{'%'}
 use Rattle.yaml_text.specs.Class.{is_hex, peek}
 use Rattle.yaml_text.specs.Test.{both_true, on_pick}
 use Rattle.yaml_text.specs.Utf8.{char_bytes, chars, first, len_of}
-use Rattle.yaml_text.specs.Utf8Laws.{first_bytes, first_fits}
+use Rattle.yaml_text.proofs.Utf8Laws.{first_bytes, first_fits}
 use Rattle.yaml_lexeme.specs.Escape.{Escaped}
 use Rattle.yaml_lexeme.specs.Tag.{code_point, octet, percent, trailing}
 use Rattle.chars.specs.Ascii.{Ascii, hex_ascii, one}

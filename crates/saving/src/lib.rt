@@ -4,18 +4,22 @@
 ghost use Rattle.io.specs.Counts.{IsPrefixLen};
 
 use identity::{is_same, of_name};
-use libc::STDOUT_FILENO;
+use outlets::{Outlet, fail, path};
 use rooms::copy;
+use std::fs::{File, Metadata, OpenOptions};
+use std::os::unix::fs::FileTypeExt;
+use std::random::RandomSource;
+use std::{fs, io};
 
 // Room for a name of up to 4,096 bytes, and what a file's own name has behind it.
 pub const NAME_ROOM: usize = 4104;
 
 const BEHIND: usize = 7;
 
-// A file that is being written: its descriptor, -1 where it could not be made, and how many bytes of the room its own name takes.
-#[derive(Clone, Copy)]
+// A file that is being written, or standard output; and how many bytes of the room its own name takes.
+#[derive(Drop)]
 pub struct Begun {
-    pub fd: i32,
+    pub out: Outlet,
     pub named: usize,
 }
 
@@ -31,9 +35,9 @@ fn letter(b: u8) -> u8 {
 }
 
 // A dot and six letters that no other run has, as good as surely.
-fn letters() -> [u8; BEHIND] {
+fn letters(rt: &HostRuntime) -> [u8; BEHIND] {
     let mut r = [0u8; 6];
-    libc::getentropy(&mut r);
+    let _ = rt.fill_bytes(&mut r);
     [
         b'.',
         letter(r[0]),
@@ -46,45 +50,56 @@ fn letters() -> [u8; BEHIND] {
 }
 
 // The name of a new file beside FILE; how long it is.
-fn put_name(name: &mut [u8], file: &[u8]) -> usize
+fn put_name(rt: &HostRuntime, name: &mut [u8], file: &[u8]) -> usize
     ensures { IsPrefixLen result name.new }
 {
     copy(name, 0, file);
-    copy(name, file.len(), &letters());
+    copy(name, file.len(), &letters(rt));
     within(file.len() + BEHIND, name)
 }
 
-// Makes a new file beside FILE, with the mode that the process gives its files: the name must not be taken. Where it can't be made, standard error says why.
-pub fn begin_file(file: &[u8], name: &mut [u8]) -> Begun {
-    let n = put_name(name, file);
-    let fd = os::create(&name[..n]);
-    if fd < 0 {
-        os::fail(file);
-        return Begun { fd: -1, named: n };
+// A new file: the name must not be taken.
+fn create(rt: &HostRuntime, name: &[u8]) -> io::Result<File> {
+    OpenOptions::new()
+        .write(true)
+        .create_new(true)
+        .open(rt, path(name)?)
+}
+
+// Makes a new file beside FILE, with the mode that the process gives its files. Where it can't be made, standard error says why.
+pub fn begin_file(rt: &HostRuntime, file: &[u8], name: &mut [u8]) -> Option<Begun> {
+    let n = put_name(rt, name, file);
+    match create(rt, &name[..n]) {
+        Ok(made) => Some(Begun {
+            out: Outlet::file(made),
+            named: n,
+        }),
+        Err(e) => {
+            fail(rt, file, e);
+            None
+        }
     }
-    Begun { fd: fd, named: n }
 }
 
 // Some files can't be synchronised, as pipes and terminals: EINVAL, EROFS, ENOSYS, EOPNOTSUPP.
-fn has_no_sync(error: i32) -> bool {
-    match error {
-        libc::EINVAL | libc::EROFS | 38 | 95 => true,
+fn has_no_sync(error: io::Error) -> bool {
+    match error.raw_os_error() {
+        Some(22 | 30 | 38 | 95) => true,
         _ => false,
     }
 }
 
-fn is_kept(fd: i32) -> bool {
-    if libc::fsync(fd) == 0 {
-        return true;
+// Ends a file: an error where not all that was written is kept. It is closed then, in any case.
+fn settle(file: File) -> io::Result<()> {
+    match file.sync_all() {
+        Ok(()) => Ok(()),
+        Err(e) => {
+            if has_no_sync(e) {
+                return Ok(());
+            }
+            Err(e)
+        }
     }
-    has_no_sync(os::errno())
-}
-
-// Whether all that was written is kept. The descriptor is closed then, in any case.
-fn settle(fd: i32) -> bool {
-    let kept = is_kept(fd);
-    let closed = libc::close(fd) == 0;
-    kept & closed
 }
 
 // Behind its last '/', or 0.
@@ -101,54 +116,66 @@ fn folder_length(file: &[u8]) -> usize
     0
 }
 
-fn open_folder(file: &[u8]) -> i32 {
+fn open_folder(rt: &HostRuntime, file: &[u8]) -> io::Result<File> {
     let n = folder_length(file);
     if n == 0 {
-        return os::open_read(b".");
+        return File::open(rt, ".");
     }
-    os::open_read(&file[..n])
+    File::open(rt, path(&file[..n])?)
 }
 
-// Whether the folder's entry for FILE is kept, as far as the folder can be opened.
-fn is_entered(file: &[u8]) -> bool {
-    let fd = open_folder(file);
-    if fd < 0 {
-        return true;
+// Keeps the folder's entry for FILE, as far as the folder can be opened.
+fn enter(rt: &HostRuntime, file: &[u8]) -> io::Result<()> {
+    match open_folder(rt, file) {
+        Ok(folder) => settle(folder),
+        Err(_) => Ok(()),
     }
-    settle(fd)
 }
 
-fn put_in_place(fd: i32, name: &[u8], file: &[u8]) -> bool {
-    if !settle(fd) {
-        return false;
+// Standard output has no name to take.
+fn put_in_place(rt: &HostRuntime, out: Outlet, name: &[u8], file: &[u8]) -> io::Result<()> {
+    match out.into_file() {
+        Some(made) => settle(made)?,
+        None => {}
     }
-    os::rename(name, file) == 0
+    fs::rename(rt, path(name)?, path(file)?)
+}
+
+fn remove(rt: &HostRuntime, name: &[u8]) -> io::Result<()> {
+    fs::remove_file(rt, path(name)?)
 }
 
 // Puts the file in its place. Where that fails, standard error says why, and nothing is left beside it.
-pub fn finish_file(begun: Begun, name: &[u8], file: &[u8]) -> bool {
-    let n = within(begun.named, name);
-    if !put_in_place(begun.fd, &name[..n], file) {
-        os::fail(file);
-        os::unlink(&name[..n]);
-        return false;
+pub fn finish_file(rt: &HostRuntime, begun: Begun, name: &[u8], file: &[u8]) -> bool {
+    let Begun { out, named } = begun;
+    let n = within(named, name);
+    match put_in_place(rt, out, &name[..n], file) {
+        Ok(()) => {}
+        Err(e) => {
+            fail(rt, file, e);
+            let _ = remove(rt, &name[..n]);
+            return false;
+        }
     }
-    if is_entered(file) {
-        return true;
+    match enter(rt, file) {
+        Ok(()) => true,
+        Err(e) => {
+            fail(rt, file, e);
+            false
+        }
     }
-    os::fail(file);
-    false
 }
 
 // Removes a file that will not be finished.
-pub fn drop_file(begun: Begun, name: &[u8]) {
-    let n = within(begun.named, name);
-    libc::close(begun.fd);
-    os::unlink(&name[..n]);
+pub fn drop_file(rt: &HostRuntime, begun: Begun, name: &[u8]) {
+    let Begun { out, named } = begun;
+    let n = within(named, name);
+    drop(out);
+    let _ = remove(rt, &name[..n]);
 }
 
 // Whether FILE is the place of a file that was begun, by whatever name: a file with the same letters behind it stands beside both.
-pub fn is_place(begun: Begun, name: &[u8], file: &[u8]) -> bool {
+pub fn is_place(rt: &HostRuntime, begun: &Begun, name: &[u8], file: &[u8]) -> bool {
     let n = within(begun.named, name);
     if n < BEHIND {
         return false;
@@ -157,14 +184,39 @@ pub fn is_place(begun: Begun, name: &[u8], file: &[u8]) -> bool {
     copy(&mut space, 0, file);
     copy(&mut space, file.len(), &name[n - BEHIND..n]);
     let k = within(file.len() + BEHIND, &space);
-    is_same(of_name(&space[..k]), of_name(&name[..n]))
+    is_same(of_name(rt, &space[..k]), of_name(rt, &name[..n]))
+}
+
+// Where standard output goes, as a file.
+const OUTPUT: &str = "/dev/stdout";
+
+// Only what a disk holds can be synchronised.
+fn is_on_disk(m: &Metadata) -> bool {
+    m.is_file() | m.file_type().is_block_device()
+}
+
+// The file that standard output goes to, once more: a file's own descriptor alone can be synchronised.
+fn open_output(rt: &HostRuntime) -> io::Result<File> {
+    match File::open(rt, OUTPUT) {
+        Ok(file) => Ok(file),
+        Err(_) => OpenOptions::new().write(true).open(rt, OUTPUT),
+    }
+}
+
+fn settle_output(rt: &HostRuntime) -> io::Result<()> {
+    if is_on_disk(&fs::metadata(rt, OUTPUT)?) {
+        return settle(open_output(rt)?);
+    }
+    Ok(())
 }
 
 // Ends standard output, and says on standard error where something of it was not kept.
-pub fn close_output() -> bool {
-    if settle(STDOUT_FILENO) {
-        return true;
+pub fn close_output(rt: &HostRuntime) -> bool {
+    match settle_output(rt) {
+        Ok(()) => true,
+        Err(e) => {
+            fail(rt, b"standard output", e);
+            false
+        }
     }
-    os::fail(b"standard output");
-    false
 }

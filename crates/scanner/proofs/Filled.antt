@@ -20,7 +20,7 @@ use Rattle.yaml_lexeme.specs.RecordLaws.{records_length}
 use Rattle.yaml_scan.specs.declared.Limits.{Limits}
 use Rattle.yaml_scan.specs.State.{puts}
 use Rattle.yaml_scan.specs.Slots.{tokens_of}
-use Rattle.yaml_scan.specs.SlotLaws.{outcome_total}
+use Rattle.yaml_scan.proofs.SlotLaws.{outcome_total}
 use Rattle.yaml_scan.specs.Scan.{Verdict, answer, answer_for, blank_answer, filled, lent, outcome, refusal, scan, stopped}
 use Rattle.yaml_scan.specs.Scan as definition
 use Rattle.rooms.specs.Room.{cleared}

@@ -2,9 +2,20 @@
 #![tactic(auto)]
 
 ghost use Rattle.std.specs.Prelude.{◌≡◌, length};
+ghost use Rattle.std.specs.Io.{ReadsAtMost};
 ghost use Rattle.sheets.specs.Sheet.{Within, ending};
 
-use libc::STDIN_FILENO;
+use outlets::{fail, path};
+use std::fs::File;
+use std::io;
+use std::io::{Read, Stdin};
+
+// What a sheet is read from: standard input or a file.
+#[derive(Drop)]
+pub enum Source {
+    Input(Stdin),
+    File(File),
+}
 
 // What was read of a sheet into a room.
 #[derive(Clone, Copy)]
@@ -28,39 +39,65 @@ fn ended(got: isize, n: usize) -> Sheet
     }
 }
 
-// Says what just failed with a sheet. One without a name is standard input.
-pub fn fail_sheet(name: &[u8]) {
+// Says why something just failed with a sheet. One without a name is standard input.
+pub fn fail_sheet(rt: &HostRuntime, name: &[u8], why: io::Error) {
     if name.len() == 0 {
-        os::fail(b"standard input");
+        fail(rt, b"standard input", why);
     } else {
-        os::fail(name);
+        fail(rt, name, why);
     }
 }
 
-// A descriptor; -1 where there is none, and standard error says why.
-pub fn open_sheet(name: &[u8]) -> i32 {
+fn open(rt: &HostRuntime, name: &[u8]) -> io::Result<File> {
+    File::open(rt, path(name)?)
+}
+
+// What a sheet is read from: a file, or standard input where there is no name. Where there is none, standard error says why.
+pub fn open_sheet(rt: &HostRuntime, name: &[u8]) -> Option<Source> {
     if name.len() == 0 {
-        return STDIN_FILENO;
+        return Some(Source::Input(rt.stdin()));
     }
-    let fd = os::open_read(name);
-    if fd < 0 {
-        os::fail(name);
-    }
-    fd
+    open_file(rt, name)
 }
 
-// Reads until the room is full, the input ends or a read fails.
-pub fn read_sheet(fd: i32, room: &mut [u8]) -> Sheet
+// The file of a name. Where there is none, standard error says why.
+pub fn open_file(rt: &HostRuntime, name: &[u8]) -> Option<Source> {
+    match open(rt, name) {
+        Ok(file) => Some(Source::File(file)),
+        Err(e) => {
+            fail(rt, name, e);
+            None
+        }
+    }
+}
+
+fn read_some(from: &mut Source, room: &mut [u8]) -> io::Result<usize>
+    ensures { ReadsAtMost result room.new }
+{
+    match from {
+        Source::Input(input) => input.read(room),
+        Source::File(file) => file.read(room),
+    }
+}
+
+// Reads until the room is full, the input ends or a read fails, and then standard error says why.
+pub fn read_sheet(rt: &HostRuntime, name: &[u8], from: &mut Source, room: &mut [u8]) -> Sheet
     ensures { Within (length room.new) result }
 {
     let mut n = 0;
     while n < room.len() {
-        let got = libc::read(fd, &mut room[n..]);
-        let k = io::count(got, &room[n..]);
-        if k == 0 {
-            return ended(got, n);
+        match read_some(from, &mut room[n..]) {
+            Ok(k) => {
+                if k == 0 {
+                    return ended(0, n);
+                }
+                n += k;
+            }
+            Err(e) => {
+                fail_sheet(rt, name, e);
+                return ended(-1, n);
+            }
         }
-        n += k;
     }
     Sheet::Full
 }

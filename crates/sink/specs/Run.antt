@@ -10,7 +10,7 @@ use Rattle.yaml_scan.specs.State.{Event, puts}
 use Rattle.yaml_scan.specs.Slots.{slots, tokens_of}
 use Rattle.yaml_scan.specs.SlotLaws.{slots_length}
 use Rattle.yaml_scan.specs.Scan.{outcome, scanned}
-use Rattle.yaml_scan.specs.Budget.{outcome_placed}
+use Rattle.yaml_scan.proofs.Budget.{outcome_placed}
 use Rattle.yaml_scan.specs.Candidates.{Placed}
 use Rattle.events.specs.Event.{event_texts}
 use Rattle.sink.specs.Settle.{front, settled_words, total_records}

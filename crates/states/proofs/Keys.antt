@@ -14,7 +14,6 @@ use Rattle.yaml_scan.specs.declared.Candidate.TheVariants.{Absent, Possible}
 use Rattle.yaml_scan.specs.Indent.{top_ends}
 use Rattle.yaml_scan.specs.Keys.{lapse, stale, top_key}
 use Rattle.yaml_scan.specs.State.{lapse_key, remove_key, save_key, with_keys}
-use Rattle.yaml_scan.specs.State as definition
 use Rattle.stacks.specs.Stack.{entry_words}
 use Rattle.stacks.specs.Frame.{SetsKey, frame_keys, key_of}
 use Rattle.stacks.specs.Indent.{entries_of}

@@ -17,10 +17,12 @@ use Rattle.yaml_scan.specs.State as definition
 use Rattle.yaml_scan.specs.State.{Event, mark_of}
 use Rattle.yaml_scan.specs.Slots.{Slot}
 use Rattle.yaml_stream.specs.Between.{to_scan}
-use Rattle.yaml_stream.specs.Noted.{Noted, reached_noted}
+use Rattle.yaml_stream.specs.Noted.{Noted}
+use Rattle.yaml_stream.proofs.Noted.{reached_noted}
 use Rattle.yaml_stream.specs.Notes.{AllNoted}
 use Rattle.yaml_stream.specs.Stream.{Stream, brings, fresh, least_records, scanning, waits}
-use Rattle.yaml_stream.specs.Waiting.{Held, StreamReaches, fresh_keeps, reaches_keeps}
+use Rattle.yaml_stream.specs.Waiting.{Held, StreamReaches, fresh_keeps}
+use Rattle.yaml_stream.proofs.Waiting.{reaches_keeps}
 use Rattle.yaml_stream.specs.Waits.{waits_length}
 use Rattle.stacks.specs.Most.{at_most, at_most_stays}
 use Rattle.stacks.specs.Stack.{stack_words}

@@ -12,7 +12,7 @@ use Rattle.yaml_text.specs.declared.Mark.{Mark}
 use Rattle.yaml_text.specs.Refusal.{Read, got, refused}
 use Rattle.yaml_text.specs.Mark.{origin}
 use Rattle.yaml_text.specs.Decode.{decode}
-use Rattle.yaml_text.specs.DecodeLaws.{decode_chars}
+use Rattle.yaml_text.proofs.DecodeLaws.{decode_chars}
 use Rattle.yaml_text.specs.All.{all_got}
 use Rattle.yaml_text.specs.Test.{by_test}
 use Rattle.yaml_text.specs.Utf8.{chars}
@@ -25,7 +25,8 @@ use Rattle.yaml_scan.specs.Scan.{begin}
 use Rattle.yaml_scan.specs.Slots.{flat, slot}
 use Rattle.yaml_stream.specs.Ahead.{there}
 use Rattle.yaml_stream.specs.Answers.{refused_again}
-use Rattle.yaml_stream.specs.Between.{begin_between, between_given}
+use Rattle.yaml_stream.specs.Between.{between_given}
+use Rattle.yaml_stream.proofs.Between.{begin_between}
 use Rattle.yaml_stream.specs.Seeks.{call_here}
 use Rattle.yaml_stream.specs.Stream.{Called, Stream, begun, broken, call, called, first_of, fresh, give, least_records, possible, ready, scanning, token, too_few_words}
 use Rattle.yaml_stream.specs.Waiting.{StreamReaches, here, then_give}

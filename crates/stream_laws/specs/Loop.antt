@@ -20,12 +20,14 @@ use Rattle.yaml_stream.specs.Stream as stream
 use Rattle.yaml_stream.specs.Sizes.{brings_append}
 use Rattle.yaml_stream.specs.Waits.{waits_append}
 use Rattle.yaml_stream.specs.Waiting.{then_step}
-use Rattle.yaml_stream.specs.Levels.{on_at}
+use Rattle.yaml_stream.proofs.Levels.{on_at}
 use Rattle.yaml_stream.specs.Notes.{flat_befores}
 use Rattle.yaml_stream.specs.Noted.{Noted}
-use Rattle.yaml_stream.specs.Seeks.{call_on}
-use Rattle.yaml_stream.specs.Between.{BetweenCalls, Pauses, between_drop, step_pauses, still_first}
-use Rattle.yaml_stream.specs.Ahead.{CallsGive, ahead_from, ahead_reaches, ahead_then, free_ahead, there}
+use Rattle.yaml_stream.proofs.Seeks.{call_on}
+use Rattle.yaml_stream.specs.Between.{BetweenCalls, Pauses, between_drop, still_first}
+use Rattle.yaml_stream.proofs.Between.{step_pauses}
+use Rattle.yaml_stream.specs.Ahead.{CallsGive, ahead_from, ahead_reaches, ahead_then, there}
+use Rattle.yaml_stream.proofs.Ahead.{free_ahead}
 use Rattle.events.specs.declared.Counts.{Counts}
 use Rattle.events.specs.Event.{event_texts}
 use Rattle.sink.specs.EventsStored.{notes_append}

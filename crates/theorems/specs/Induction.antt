@@ -11,7 +11,8 @@ use Rattle.yaml_scan.specs.State.{Event, News, State, block_ends, ends_with, goe
 use Rattle.yaml_scan.specs.Scan.{Outcome, after_events, after_step, begin, outcome, run, scan, scanned, spent, step, stopped, unrolled}
 use Rattle.yaml_scan.specs.Budget.{on_news, outcome_by}
 use Rattle.yaml_scan.specs.Moves.{Moves}
-use Rattle.yaml_scan.specs.Steps.{Gapped, Takes, step_by, unrolled_state}
+use Rattle.yaml_scan.specs.Steps.{Gapped, Takes, unrolled_state}
+use Rattle.yaml_scan.proofs.Steps.{step_by}
 
 -- of what was scanned
 abbrev pub OfOutcome : (List Event → Type 0) → Outcome → Type 0

@@ -5,7 +5,6 @@ pub mod TokenCount
 pub mod Tokens
 pub mod ByteCount
 pub mod Bytes
-pub mod Room
 pub mod Nested
 pub mod NestedLaws
 pub mod Opened
@@ -13,5 +12,4 @@ pub mod NestingMoves
 pub mod NestingSteps
 pub mod Nesting
 pub mod ReaderNumbers
-pub mod Numbers
 pub mod Answered

@@ -14,10 +14,9 @@ use Rattle.yaml_scan.specs.Indent.{Indents}
 use Rattle.yaml_scan.specs.IndentLaws.{blocks_of, innermost}
 use Rattle.yaml_scan.specs.Keys.{set_key, top_key}
 use Rattle.yaml_scan.specs.State.{Event, put}
-use Rattle.yaml_scan.specs.Slots.{Slot, flat, note, slot, slots}
+use Rattle.yaml_scan.specs.Slots.{Slot, flat, slot, slots}
 use Rattle.yaml_scan.specs.Moves.{Tidy, bracket}
-use Rattle.theorems.specs.Nested.{Nested}
-use Rattle.theorems.specs.NestedLaws.{Clear, Leads, EventsNest, clear_last, clear_noted, clear_says, clear_within, says_nested, silent, since_noted, since_says}
+use Rattle.theorems.specs.NestedLaws.{Clear, Leads, EventsNest, clear_last, clear_says, clear_within, says_nested, silent, since_says}
 
 -- what a level holds open, the latest first: its bracket, and an implicit pair
 abbrev pub held : Level → List Open
@@ -85,14 +84,14 @@ pub built_says : {i i' : Indents} {m m' : Mark} {n n' : ℕ} {ks : List Candidat
 built_says u v xs b e g h = built_on xs u v b e g h
 
 -- the numbers further out are smaller still
-below_most : (n : ℕ) (u : List Open) (xs : List Slot) (c : Candidate) → Since n u xs c → below n c ≤ n
+pub below_most : (n : ℕ) (u : List Open) (xs : List Slot) (c : Candidate) → Since n u xs c → below n c ≤ n
 below_most n u xs Absent h = le_refl n
 below_most n u xs (Possible required k m) h = omega (arith, h.0)
 
 goes_nowhere : {i : Indents} {m : Mark} → MovesOn i m i m
 goes_nowhere = record { same_blocks = refl; stays = λ _ h. h }
 
-built_more : {i : Indents} {m : Mark} {xs : List Slot} {u : List Open} {n n' : ℕ} {ks : List Candidate} {ls : List Level} → n ≤ n' → Built i m xs u n ks ls → Built i m xs u n' ks ls
+pub built_more : {i : Indents} {m : Mark} {xs : List Slot} {u : List Open} {n n' : ℕ} {ks : List Candidate} {ls : List Level} → n ≤ n' → Built i m xs u n ks ls → Built i m xs u n' ks ls
 unfolding slots
 built_more {xs = xs} {u = u} b h = built_says {es = []} u u xs b (λ os. silent) goes_nowhere h
 
@@ -125,26 +124,3 @@ built_saved u t xs required k b e g s h =
     built_with (Possible required (length xs) k) (next_since u t xs required k b e) s (built_says [] u xs (le_refl (length xs)) e g (built_without h))
 
 -- tokens that leave w open go in before a candidate's, since which all is closed again
-
-module _ (k : ℕ) (w : List Open) (ts : List Token) (xs : List Slot) (e : (os : List Open) → Nested os ts (w ++ os)) (clear : Clear k xs) (even : Leads k [] xs) where
-  leads_noted : (j : ℕ) (u : List Open) → j ≤ k → Leads j u xs → Leads j (w ++ u) (note k ts xs)
-  leads_noted j u b h os = rw append_assoc (since_noted j k w ts xs b e clear even (h os))
-
-  still_since : {n : ℕ} (u : List Open) (c : Candidate) → n ≤ k → Since n u xs c → Since n (w ++ u) (note k ts xs) c
-  still_since u Absent b h = tt
-  still_since u (Possible required j m) b h = (h.0, clear_noted j k ts xs (omega (arith, h.0)) h.1, leads_noted j u (omega (arith, h.0)) h.2)
-
-  built_noted : {i : Indents} {m : Mark} {u : List Open} {n : ℕ} {ks : List Candidate} {ls : List Level} → n ≤ k → Built i m xs u n ks ls → Built i m (note k ts xs) (w ++ u) n ks ls
-  built_noted {i} {u = u} b (outside {c = c} h s l) =
-      let j : Leads 0 (w ++ u ++ blocks i) (note k ts xs) = rw append_assoc (leads_noted 0 (u ++ blocks i) (omega arith) l) in
-      outside (still_since u c b h) s j
-  built_noted {i} {m} {u} {n} {ls = ls} b (inside {c = c} {ks = ks} {l = l} {ls = ls'} h t j) =
-      let f : Built i m (note k ts xs) (w ++ u ++ held l) (below n c) ks ls' = rw append_assoc (built_noted (omega (arith, below_most n u xs c h)) j) in
-      inside (still_since u c b h) t f
-
-pub built_used : {i : Indents} {m m' : Mark} {xs : List Slot} {required : Bool} {k n : ℕ} {ks : List Candidate} {ls : List Level} (w : List Open) (ts : List Token)
-    → ((os : List Open) → Nested os ts (w ++ os)) → Built i m xs [] n (Possible required k m' ∷ ks) ls → Built i m (note k ts xs) w n (Absent ∷ ks) ls
-built_used {xs = xs} {k = k} w ts e (outside h s l) = outside tt tt (leads_noted k w ts xs e h.1 h.2 0 _ (omega arith) l)
-built_used {xs = xs} {k = k} {n = n} w ts e (inside h t j) =
-    let b : k ≤ n = omega (arith, h.0) in
-    inside tt t (built_more b (built_noted k w ts xs e h.1 h.2 (le_refl k) j))

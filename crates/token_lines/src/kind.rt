@@ -1,5 +1,6 @@
 // The line of a token.
 use crate::out::{Waiting, put_number, put_quoted, put_text};
+use outlets::Outlet;
 use records::token::kind_number;
 use showing::count::least;
 use showing::line::line_end;
@@ -35,78 +36,100 @@ const KINDS: [u8; 347] = *b"
 ";
 
 // `LINE:COLUMN` and a blank, with columns from 1.
-fn put_mark(out: &mut [u8], o: Waiting, m: Mark) -> Waiting {
-    let line = put_number(out, o, m.line as u64);
-    let colon = put_text(out, line, b":");
-    let col = put_number(out, colon, m.col as u64 + 1);
-    put_text(out, col, b" ")
+fn put_mark(outlet: &mut Outlet, out: &mut [u8], o: Waiting, m: Mark) -> Waiting {
+    let line = put_number(outlet, out, o, m.line as u64);
+    let colon = put_text(outlet, out, line, b":");
+    let col = put_number(outlet, out, colon, m.col as u64 + 1);
+    put_text(outlet, out, col, b" ")
 }
 
 // The words of a number among rows.
-fn put_row(out: &mut [u8], o: Waiting, rows: &[u8], number: u32) -> Waiting {
+fn put_row(outlet: &mut Outlet, out: &mut [u8], o: Waiting, rows: &[u8], number: u32) -> Waiting {
     let from = row_words(rows, number);
     let to = line_end(rows, from);
-    put_text(out, o, &rows[from..to])
+    put_text(outlet, out, o, &rows[from..to])
 }
 
-fn put_kind(out: &mut [u8], o: Waiting, k: Kind) -> Waiting {
-    put_row(out, o, &KINDS, kind_number(k))
+fn put_kind(outlet: &mut Outlet, out: &mut [u8], o: Waiting, k: Kind) -> Waiting {
+    put_row(outlet, out, o, &KINDS, kind_number(k))
 }
 
-fn put_style(out: &mut [u8], o: Waiting, s: Style) -> Waiting {
+fn put_style(outlet: &mut Outlet, out: &mut [u8], o: Waiting, s: Style) -> Waiting {
     match s {
-        Style::Plain => put_text(out, o, b" plain"),
-        Style::SingleQuoted => put_text(out, o, b" single quoted"),
-        Style::DoubleQuoted => put_text(out, o, b" double quoted"),
-        Style::Literal => put_text(out, o, b" literal"),
-        Style::Folded => put_text(out, o, b" folded"),
+        Style::Plain => put_text(outlet, out, o, b" plain"),
+        Style::SingleQuoted => put_text(outlet, out, o, b" single quoted"),
+        Style::DoubleQuoted => put_text(outlet, out, o, b" double quoted"),
+        Style::Literal => put_text(outlet, out, o, b" literal"),
+        Style::Folded => put_text(outlet, out, o, b" folded"),
     }
 }
 
 // A text among the decoded bytes, as far as it lies in them.
-fn put_one(out: &mut [u8], o: Waiting, bytes: &[u8], t: Text) -> Waiting {
+fn put_one(outlet: &mut Outlet, out: &mut [u8], o: Waiting, bytes: &[u8], t: Text) -> Waiting {
     let from = least(t.at as usize, bytes.len());
     let to = from + least(t.len as usize, bytes.len() - from);
-    let blank = put_text(out, o, b" ");
-    put_quoted(out, blank, &bytes[from..to])
+    let blank = put_text(outlet, out, o, b" ");
+    put_quoted(outlet, out, blank, &bytes[from..to])
 }
 
-fn put_two(out: &mut [u8], o: Waiting, bytes: &[u8], t: Text, u: Text) -> Waiting {
-    let first = put_one(out, o, bytes, t);
-    put_one(out, first, bytes, u)
+fn put_two(
+    outlet: &mut Outlet,
+    out: &mut [u8],
+    o: Waiting,
+    bytes: &[u8],
+    t: Text,
+    u: Text,
+) -> Waiting {
+    let first = put_one(outlet, out, o, bytes, t);
+    put_one(outlet, out, first, bytes, u)
 }
 
-fn put_scalar(out: &mut [u8], o: Waiting, bytes: &[u8], s: Style, t: Text) -> Waiting {
-    let style = put_style(out, o, s);
-    put_one(out, style, bytes, t)
+fn put_scalar(
+    outlet: &mut Outlet,
+    out: &mut [u8],
+    o: Waiting,
+    bytes: &[u8],
+    s: Style,
+    t: Text,
+) -> Waiting {
+    let style = put_style(outlet, out, o, s);
+    put_one(outlet, out, style, bytes, t)
 }
 
 // `1.2`.
-fn put_version(out: &mut [u8], o: Waiting, major: u32, minor: u32) -> Waiting {
-    let blank = put_text(out, o, b" ");
-    let first = put_number(out, blank, major as u64);
-    let dot = put_text(out, first, b".");
-    put_number(out, dot, minor as u64)
+fn put_version(outlet: &mut Outlet, out: &mut [u8], o: Waiting, major: u32, minor: u32) -> Waiting {
+    let blank = put_text(outlet, out, o, b" ");
+    let first = put_number(outlet, out, blank, major as u64);
+    let dot = put_text(outlet, out, first, b".");
+    put_number(outlet, out, dot, minor as u64)
 }
 
 // What a token holds.
-fn put_held(out: &mut [u8], o: Waiting, bytes: &[u8], k: Kind) -> Waiting {
+fn put_held(outlet: &mut Outlet, out: &mut [u8], o: Waiting, bytes: &[u8], k: Kind) -> Waiting {
     match k {
-        Kind::VersionDirective { major, minor } => put_version(out, o, major, minor),
-        Kind::TagDirective { handle, prefix } => put_two(out, o, bytes, handle, prefix),
-        Kind::Alias(t) => put_one(out, o, bytes, t),
-        Kind::Anchor(t) => put_one(out, o, bytes, t),
-        Kind::Tag { handle, suffix } => put_two(out, o, bytes, handle, suffix),
-        Kind::Scalar { style, text } => put_scalar(out, o, bytes, style, text),
-        Kind::ReservedDirective { name, parameters } => put_two(out, o, bytes, name, parameters),
+        Kind::VersionDirective { major, minor } => put_version(outlet, out, o, major, minor),
+        Kind::TagDirective { handle, prefix } => put_two(outlet, out, o, bytes, handle, prefix),
+        Kind::Alias(t) => put_one(outlet, out, o, bytes, t),
+        Kind::Anchor(t) => put_one(outlet, out, o, bytes, t),
+        Kind::Tag { handle, suffix } => put_two(outlet, out, o, bytes, handle, suffix),
+        Kind::Scalar { style, text } => put_scalar(outlet, out, o, bytes, style, text),
+        Kind::ReservedDirective { name, parameters } => put_two(
+            outlet, out, o, bytes, name, parameters,
+        ),
         _ => o,
     }
 }
 
-pub fn put_token(out: &mut [u8], o: Waiting, t: Token, bytes: &[u8]) -> Waiting {
+pub fn put_token(
+    outlet: &mut Outlet,
+    out: &mut [u8],
+    o: Waiting,
+    t: Token,
+    bytes: &[u8],
+) -> Waiting {
     let k = t.kind;
-    let mark = put_mark(out, o, t.start);
-    let kind = put_kind(out, mark, k);
-    let held = put_held(out, kind, bytes, k);
-    put_text(out, held, b"\n")
+    let mark = put_mark(outlet, out, o, t.start);
+    let kind = put_kind(outlet, out, mark, k);
+    let held = put_held(outlet, out, kind, bytes, k);
+    put_text(outlet, out, held, b"\n")
 }

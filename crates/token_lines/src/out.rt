@@ -1,5 +1,5 @@
 // Standard output, through a buffer.
-use libc::STDOUT_FILENO;
+use outlets::Outlet;
 use rooms::put;
 use showing::count::least;
 use showing::show::{char_len, is_shown};
@@ -13,12 +13,12 @@ pub struct Waiting {
 }
 
 // Writes what waits. Behind a write that failed nothing more is written.
-pub fn flush(out: &[u8], o: Waiting) -> Waiting {
+pub fn flush(outlet: &mut Outlet, out: &[u8], o: Waiting) -> Waiting {
     if !o.good {
         return o;
     }
     let n = least(o.used, out.len());
-    let good = io::write_all(STDOUT_FILENO, &out[0..n]);
+    let good = outlet.put(&out[0..n]);
     Waiting {
         used: 0,
         good: good,
@@ -26,7 +26,7 @@ pub fn flush(out: &[u8], o: Waiting) -> Waiting {
 }
 
 // One byte; a full buffer is written first.
-fn put_byte(out: &mut [u8], o: Waiting, b: u8) -> Waiting {
+fn put_byte(outlet: &mut Outlet, out: &mut [u8], o: Waiting, b: u8) -> Waiting {
     let n = o.used;
     if n < out.len() {
         out[n] = b;
@@ -35,7 +35,7 @@ fn put_byte(out: &mut [u8], o: Waiting, b: u8) -> Waiting {
             good: o.good,
         };
     }
-    let emptied = flush(out, o);
+    let emptied = flush(outlet, out, o);
     put(out, 0, b);
     Waiting {
         used: 1,
@@ -43,70 +43,70 @@ fn put_byte(out: &mut [u8], o: Waiting, b: u8) -> Waiting {
     }
 }
 
-pub fn put_text(out: &mut [u8], o: Waiting, s: &[u8]) -> Waiting {
+pub fn put_text(outlet: &mut Outlet, out: &mut [u8], o: Waiting, s: &[u8]) -> Waiting {
     let mut next = o;
     let mut i = 0;
     while i < s.len() {
-        next = put_byte(out, next, s[i]);
+        next = put_byte(outlet, out, next, s[i]);
         i += 1;
     }
     next
 }
 
 // A number in decimal.
-pub fn put_number(out: &mut [u8], o: Waiting, v: u64) -> Waiting {
+pub fn put_number(outlet: &mut Outlet, out: &mut [u8], o: Waiting, v: u64) -> Waiting {
     let mut space = [0u8; 20];
     let n = io::decimal(v, &mut space);
-    put_text(out, o, &space[..n])
+    put_text(outlet, out, o, &space[..n])
 }
 
 // A number in hexadecimal, with so many digits.
-fn put_hex(out: &mut [u8], o: Waiting, v: u32, digits: usize) -> Waiting {
+fn put_hex(outlet: &mut Outlet, out: &mut [u8], o: Waiting, v: u32, digits: usize) -> Waiting {
     let mut space = [0u8; 16];
     let n = io::hex(v as u64, digits, &mut space);
-    put_text(out, o, &space[..n])
+    put_text(outlet, out, o, &space[..n])
 }
 
 // A character that can't be shown, as an escape of double quotes.
-fn put_escape(out: &mut [u8], o: Waiting, c: u32) -> Waiting {
+fn put_escape(outlet: &mut Outlet, out: &mut [u8], o: Waiting, c: u32) -> Waiting {
     if c < 0x100 {
-        let x = put_text(out, o, b"\\x");
-        return put_hex(out, x, c, 2);
+        let x = put_text(outlet, out, o, b"\\x");
+        return put_hex(outlet, out, x, c, 2);
     }
     if c < 0x10000 {
-        let u = put_text(out, o, b"\\u");
-        return put_hex(out, u, c, 4);
+        let u = put_text(outlet, out, o, b"\\u");
+        return put_hex(outlet, out, u, c, 4);
     }
-    let u = put_text(out, o, b"\\U");
-    put_hex(out, u, c, 8)
+    let u = put_text(outlet, out, o, b"\\U");
+    put_hex(outlet, out, u, c, 8)
 }
 
 // The bytes of one character, so that it can be shown between double quotes.
-fn put_sign(out: &mut [u8], o: Waiting, s: &[u8]) -> Waiting {
+fn put_sign(outlet: &mut Outlet, out: &mut [u8], o: Waiting, s: &[u8]) -> Waiting {
     let c = look(s, 0);
     match c {
-        9 => put_text(out, o, b"\\t"),
-        10 => put_text(out, o, b"\\n"),
-        13 => put_text(out, o, b"\\r"),
-        34 => put_text(out, o, b"\\\""),
-        92 => put_text(out, o, b"\\\\"),
+        9 => put_text(outlet, out, o, b"\\t"),
+        10 => put_text(outlet, out, o, b"\\n"),
+        13 => put_text(outlet, out, o, b"\\r"),
+        34 => put_text(outlet, out, o, b"\\\""),
+        92 => put_text(outlet, out, o, b"\\\\"),
         _ => {
             if is_shown(c) {
-                return put_text(out, o, s);
+                return put_text(outlet, out, o, s);
             }
-            put_escape(out, o, c)
+            put_escape(outlet, out, o, c)
         }
     }
 }
 
 // A text between double quotes, with escapes for what can't be shown.
-pub fn put_quoted(out: &mut [u8], o: Waiting, s: &[u8]) -> Waiting {
-    let mut next = put_text(out, o, b"\"");
+pub fn put_quoted(outlet: &mut Outlet, out: &mut [u8], o: Waiting, s: &[u8]) -> Waiting {
+    let mut next = put_text(outlet, out, o, b"\"");
     let mut i = 0;
     while i < s.len() {
         let n = char_len(s, i);
-        next = put_sign(out, next, &s[i..i + n]);
+        next = put_sign(outlet, out, next, &s[i..i + n]);
         i += n;
     }
-    put_text(out, next, b"\"")
+    put_text(outlet, out, next, b"\"")
 }

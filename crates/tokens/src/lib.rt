@@ -8,6 +8,7 @@ ghost use Rattle.tokens.specs.Accepted.{Accepted, gives_none};
 use driver::held::HELD_WORDS;
 use messages::count::enough_calls;
 use messages::say_refusal;
+use outlets::Outlet;
 use records::RECORD_WORDS;
 use records::found::token_of;
 use stream::{Next, next_token};
@@ -38,16 +39,28 @@ fn gives_none(a: Next) -> bool
 }
 
 // The line of a record.
-fn put_record(out: &mut [u8], o: Waiting, token: [u32; RECORD_WORDS], bytes: &[u8]) -> Waiting {
+fn put_record(
+    outlet: &mut Outlet,
+    out: &mut [u8],
+    o: Waiting,
+    token: [u32; RECORD_WORDS],
+    bytes: &[u8],
+) -> Waiting {
     let r = token_of(&token, 0);
     match r {
-        Recorded::Found(t) => put_token(out, o, t, bytes),
+        Recorded::Found(t) => put_token(outlet, out, o, t, bytes),
         Recorded::NoToken => o,
     }
 }
 
 // Lists tokens until none is given or no more can be written.
-fn put_tokens(out: &mut [u8], text: &[u8], words: &mut [u32], bytes: &mut [u8]) -> Listed
+fn put_tokens(
+    outlet: &mut Outlet,
+    out: &mut [u8],
+    text: &[u8],
+    words: &mut [u32],
+    bytes: &mut [u8],
+) -> Listed
     ensures { result.answer ≡ Ended → Accepted text.now }
 {
     let mut held = [0u32; HELD_WORDS];
@@ -65,7 +78,7 @@ fn put_tokens(out: &mut [u8], text: &[u8], words: &mut [u32], bytes: &mut [u8]) 
                 answer: a,
             };
         }
-        o = put_record(out, o, token, bytes);
+        o = put_record(outlet, out, o, token, bytes);
         if !o.good {
             break;
         }
@@ -88,17 +101,24 @@ fn endless() -> Refusal {
 }
 
 // The exit status by the last answer; a refusal is said.
-fn status(name: &[u8], text: &[u8], a: Next, words: &mut [u32], bytes: &mut [u8]) -> i32
+fn status(
+    rt: &HostRuntime,
+    name: &[u8],
+    text: &[u8],
+    a: Next,
+    words: &mut [u32],
+    bytes: &mut [u8],
+) -> i32
     ensures { result ≡ pos 0 → a ≡ Ended }
 {
     match a {
         Next::Ended => 0,
         Next::Refused(f) => {
-            say_refusal(name, text, f, words, bytes);
+            say_refusal(rt, name, text, f, words, bytes);
             1
         }
         Next::Token => {
-            say_refusal(name, text, endless(), words, bytes);
+            say_refusal(rt, name, text, endless(), words, bytes);
             1
         }
     }
@@ -106,16 +126,23 @@ fn status(name: &[u8], text: &[u8], a: Next, words: &mut [u32], bytes: &mut [u8]
 
 // Lists the tokens of a text on standard output; the exit status: 0 where StreamEnd was given, 1 where the text is refused, which is said on standard error, 3 where
 // not all could be written.
-pub fn list_tokens(name: &[u8], text: &[u8], words: &mut [u32], bytes: &mut [u8]) -> i32
+pub fn list_tokens(
+    rt: &HostRuntime,
+    name: &[u8],
+    text: &[u8],
+    words: &mut [u32],
+    bytes: &mut [u8],
+) -> i32
     ensures { result ≡ pos 0 → Accepted text.now }
 {
+    let mut outlet = Outlet::output(rt);
     let mut out = [0u8; OUT_BYTES];
-    let l = put_tokens(&mut out, text, words, bytes);
+    let l = put_tokens(&mut outlet, &mut out, text, words, bytes);
     let answer = l.answer;
-    let o = flush(&out, l.waiting);
+    let o = flush(&mut outlet, &out, l.waiting);
     if o.good {
-        return status(name, text, answer, words, bytes);
+        return status(rt, name, text, answer, words, bytes);
     }
-    os::fail(b"standard output");
+    outlet.fail(rt, b"standard output");
     3
 }

@@ -14,7 +14,7 @@ use Rattle.yaml_text.specs.Class.{is_z, peek}
 use Rattle.yaml_text.specs.Mark.{over}
 use Rattle.yaml_text.specs.Refusal.{Read, ◌>>=◌, got, need, refused}
 use Rattle.yaml_text.specs.Decode.{decode, decoded_char}
-use Rattle.yaml_text.specs.Utf8Laws.{first_fits}
+use Rattle.yaml_text.proofs.Utf8Laws.{first_fits}
 use Rattle.chars.specs.Bytes.{NoChar}
 use Rattle.validity.specs.declared.Checked.{Checked}
 use Rattle.validity.specs.declared.Checked.TheVariants.{Refused}

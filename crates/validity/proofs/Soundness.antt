@@ -17,7 +17,7 @@ use Rattle.yaml_text.specs.Mark.{origin, over}
 use Rattle.yaml_text.specs.Refusal.{Read, ◌>>=◌, got, need}
 use Rattle.yaml_text.specs.Decode.{decode, decoded_char}
 use Rattle.yaml_text.specs.Test.{by_test, true_false}
-use Rattle.yaml_text.specs.Utf8Laws.{first_fits}
+use Rattle.yaml_text.proofs.Utf8Laws.{first_fits}
 use Rattle.validity.specs.declared.Checked.{Checked}
 use Rattle.validity.specs.declared.Checked.TheVariants.{Refused, Sound}
 use Rattle.validity.specs.Checked.{checked}

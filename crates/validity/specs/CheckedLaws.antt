@@ -7,7 +7,7 @@ use Rattle.yaml_text.specs.Utf8.{chars}
 use Rattle.yaml_text.specs.Refusal.{Read, got, refused}
 use Rattle.yaml_text.specs.Decode.{decode}
 use Rattle.yaml_text.specs.All.{All, holds}
-use Rattle.yaml_text.specs.DecodeLaws.{decode_chars}
+use Rattle.yaml_text.proofs.DecodeLaws.{decode_chars}
 use Rattle.validity.specs.declared.Checked.TheVariants.{Refused, Sound}
 use Rattle.validity.specs.Checked.{checked}
 

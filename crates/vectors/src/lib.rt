@@ -3,12 +3,14 @@
 
 mod write;
 
-ghost use Rattle.std.specs.Prelude.{◌≡◌, ◌*◌, ◌+◌, ◌<◌, ◌^◌, min, drop};
+ghost use Rattle.std.specs.Prelude.{◌≡◌, ◌*◌, ◌+◌, ◌<◌, ◌^◌, ◌≤◌, min, IfOk, drop, length};
 ghost use Rattle.yaml_lexeme.specs.Record.{record_words};
 ghost use Rattle.vectors.specs.Hex.{ReadHex, hex_value};
 ghost use Rattle.vectors.specs.Line.{line_length};
 
 use records::RECORD_WORDS;
+use std::io;
+use std::io::Read;
 pub use write::{behind, put_accepted, put_head, put_hex, put_refused};
 
 // Where the line that begins at `at` ends.
@@ -23,6 +25,22 @@ pub fn line_end(s: &[u8], at: usize) -> usize
         i += 1;
     }
     i
+}
+
+// Reads standard input into a room, until it is full or the input ends; how many bytes were read.
+pub fn read_input(rt: &HostRuntime, room: &mut [u8]) -> io::Result<usize>
+    ensures { IfOk result (λ n. n ≤ length room.new) }
+{
+    let mut input = rt.stdin();
+    let mut n = 0;
+    while n < room.len() {
+        let k = input.read(&mut room[n..])?;
+        if k == 0 {
+            break;
+        }
+        n += k;
+    }
+    Ok(n)
 }
 
 // The value of a hexadecimal digit; 16 for any other byte.

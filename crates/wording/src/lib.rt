@@ -9,7 +9,6 @@ ghost use Rattle.std.specs.Prelude.{◌≤◌, length};
 use crate::bracket::{Open, put_bracket, put_too_far_left};
 use crate::words::{put_hidden_mark, put_words};
 use chars::code::BYTE_ORDER_MARK;
-use libc::STDERR_FILENO;
 use showing::count::least;
 use showing::line::{place_of, put_line};
 use showing::put::{put_number, put_shown, put_text};
@@ -122,8 +121,8 @@ fn put_message(out: &mut [u8], name: &[u8], text: &[u8], f: Refusal, open: Open)
 }
 
 // Writes a refusal in words on standard error. An empty name, or `-`, is standard input. 42 and 47 name the bracket that is open.
-pub fn say(name: &[u8], text: &[u8], f: Refusal, open: Open) {
+pub fn say(rt: &HostRuntime, name: &[u8], text: &[u8], f: Refusal, open: Open) {
     let mut out = [0u8; MESSAGE_BYTES];
     let n = put_message(&mut out, name, text, f, open);
-    io::write_all(STDERR_FILENO, &out[0..n]);
+    outlets::say(rt, &out[0..n]);
 }

@@ -1,7 +1,7 @@
 -- Done exactly when StreamEnd is among the tokens that the stream gives in k calls, calls enough, the job gives no refusal and the count is the number of scalar
 -- tokens in that list. The reader asks for no token behind the one that it ends with.
 use Rattle.std.specs.Prelude.{◌+◌, ◌<◌, suc, ℕ, Bool, ◌&&◌, false, true, List, [], ◌++◌, ◌∷◌, ◌≡◌, refl, drop, length}
-use Rattle.std.proofs.Common.{append-nil, ◌∙◌, ap, sym, zero-add, arith}
+use Rattle.std.proofs.Common.{append-nil, ◌∙◌, ap, arith}
 use Rattle.yaml_text.specs.declared.Mark.{Mark}
 use Rattle.yaml_text.specs.Pick.{pick}
 use Rattle.yaml_text.specs.Class.{same}
@@ -10,18 +10,18 @@ use Rattle.yaml_lexeme.specs.Record.{laid, number_of}
 use Rattle.yaml_scan.specs.declared.Limits.{Limits}
 use Rattle.yaml_stream.specs.Stream.{Next}
 use Rattle.yaml_stream.specs.Tale.{built}
-use Rattle.yaml_job.specs.declared.Closing.TheVariants.{Done, NotDone}
+use Rattle.yaml_job.specs.declared.Closing.TheVariants.{NotDone}
 use Rattle.yaml_job.specs.declared.Field.{Field}
 use Rattle.yaml_job.specs.declared.Field.TheVariants.{Panel, Sample, Seeds}
 use Rattle.yaml_job.specs.declared.Form.{Form}
 use Rattle.yaml_job.specs.declared.Form.TheVariants.{Block, Braces}
 use Rattle.yaml_job.specs.declared.JobAnswer.TheVariants.{Closed}
 use Rattle.yaml_job.specs.declared.ShapePlace.TheVariants.{AtStart}
-use Rattle.yaml_job.specs.Job.{Talk, follow, is, is_scalar, job, none_met, sight, spelled}
+use Rattle.yaml_job.specs.Job.{Talk, is, is_scalar, none_met, sight, spelled}
 use Rattle.yaml_job.specs.Shape.{Entries, FieldOf, Fields, Is, IsScalar, IsSeed, Names, Shape, comma_field, field, last_field, last_seed, next_field, next_seed, no_field, no_seed, one_if, panel_text, sample_text, seed_list, shape, start_of, times}
-use Rattle.yaml_job.specs.Reads.{End, Judgement, done_shape, ends_done, judged, stops, unread}
-use Rattle.yaml_job.specs.Calls.{HasEnded, answer_of, judge}
-use Rattle.yaml_job.specs.Done.{answer_done, end_ended, heard_of, job_says, shape_end, talk_last, talk_length}
+use Rattle.yaml_job.specs.Reads.{End, Judgement, ends_done, judged, stops, unread}
+use Rattle.yaml_job.specs.Calls.{HasEnded}
+use Rattle.yaml_job.specs.Done.{end_ended, heard_of}
 
 -- the scalar tokens up to a bracket's end
 unfoldable pub in_bracket : List Token → ℕ
@@ -165,16 +165,6 @@ pub record Exact (ts : List Token) (v : Judgement) : Type 0 where
   -- the seeds handed over are as many as the scalar tokens in that list
   pub as_many : length v.values ≡ list_scalars ts
 
-pub done_exact : (ts : List Token) (a : Next) → (judged AtStart none_met ts a).end ≡ ends_done → Exact ts (judged AtStart none_met ts a)
-done_exact ts a e =
-    let s = done_shape ts a e in
-    let x = shape_end s.1 in
-    record {
-      given = (x.0, s.0, x.1, x.2, x.3);
-      none_refused = λ r k f. let z : ◌≡◌ {A = ℕ} 0 1 = cc in omega arith;
-      as_many = sym (shape_scalars s.1);
-    }
-
 pub exact_done : (ts : List Token) (a : Next) → Exact ts (judged AtStart none_met ts a) → (judged AtStart none_met ts a).end ≡ ends_done
 exact_done ts a x =
     let g = x.given in
@@ -188,7 +178,7 @@ exact_done ts a x =
 
 -- the closing record of a job, with calls enough
 module _ (limits : Limits) (bytes : List ℕ) (words room k : ℕ) (enough : length (built limits bytes) < k) where
-  abbrev heard_tokens : List Token
+  abbrev pub heard_tokens : List Token
   heard_tokens = (heard_of limits bytes words room k).tokens
 
   -- what the job says, as above: StreamEnd is among what the stream gives in k calls, no refusal, as many seeds as scalars
@@ -196,31 +186,3 @@ module _ (limits : Limits) (bytes : List ℕ) (words room k : ℕ) (enough : len
     pub end_given : (fs : List Token) × (us : List Token) × (z : Token) × (heard_tokens ≡ fs ++ (z ∷ us)) × Is StreamEnd z
     pub not_refused : (c n : ℕ) (m : Mark) → r.last ≡ Closed (NotDone c m n) → ⊥
     pub all_handed : length r.handed ≡ list_scalars heard_tokens
-
-  abbrev its : Judgement
-  its = judge AtStart none_met (heard_of limits bytes words room k)
-
-  pub done_exactly : (n : ℕ) → (follow limits room k (job limits bytes words)).last ≡ Closed (Done n) → Exactly (follow limits room k (job limits bytes words))
-  done_exactly n e =
-      let j = job_says limits bytes words room k enough in
-      let l = talk_last 0 its.values its.end in
-      let d = answer_done (0 + length its.values) n its.end (sym l ∙ ap (λ (t : Talk). t.last) (sym j) ∙ e) in
-      let x = done_exact heard_tokens (heard_of limits bytes words room k).last d.0 in
-      record {
-        end_given = x.given;
-        not_refused = λ c i m f. let z : ◌≡◌ {A = ℕ} 0 1 = cc in omega arith;
-        all_handed = ap (λ (t : Talk). length t.handed) j ∙ sym (talk_length 0 its.values its.end) ∙ x.as_many;
-      }
-
-  pub exactly_done : Exactly (follow limits room k (job limits bytes words))
-      → (follow limits room k (job limits bytes words)).last ≡ Closed (Done (list_scalars heard_tokens))
-  exactly_done x =
-      let j = job_says limits bytes words room k enough in
-      let l = ap (λ (t : Talk). t.last) j ∙ talk_last 0 its.values its.end in
-      let n : length its.values ≡ list_scalars heard_tokens = talk_length 0 its.values its.end ∙ ap (λ (t : Talk). length t.handed) (sym j) ∙ x.all_handed in
-      let e = exact_done heard_tokens (heard_of limits bytes words room k).last (record {
-        given = x.end_given;
-        none_refused = λ r m f. x.not_refused r (0 + length its.values) m (l ∙ ap (λ (d : End). answer_of (0 + length its.values) d) f);
-        as_many = n;
-      }) in
-      l ∙ ap (λ (d : End). answer_of (0 + length its.values) d) e ∙ ap (λ (i : ℕ). Closed (Done i)) (zero-add (length its.values) ∙ n)

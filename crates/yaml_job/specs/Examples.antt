@@ -1,6 +1,5 @@
 -- How the open places of Ask 14 are read: the smallest text of each, computed; `one` is 14.1. The seeds handed over, then the closing record.
 use Rattle.std.specs.Prelude.{◌*◌, ℕ, List, [], ◌∷◌, ◌≡◌, refl}
-use Rattle.std.proofs.Common.{ap}
 use Rattle.yaml_lexeme.specs.Record.{record_words}
 use Rattle.yaml_scan.specs.Scan.{standard}
 use Rattle.yaml_scan.specs.Open.{all_open}
@@ -11,14 +10,13 @@ use Rattle.yaml_job.specs.declared.Closing.TheVariants.{Done, NotDone}
 use Rattle.yaml_job.specs.declared.JobAnswer.TheVariants.{Closed}
 use Rattle.yaml_job.specs.Job.{Talk, follow, job, talk}
 use Rattle.yaml_job.specs.Open.{job_open}
-use Rattle.yaml_job.specs.Done.{JobDone, done_means}
 
 -- words for 4,400 records
-abbrev ample : ℕ
+abbrev pub ample : ℕ
 ample = least_records * record_words
 
 -- with 99 bytes: 3 calls
-abbrev read_job : List ℕ → Talk
+abbrev pub read_job : List ℕ → Talk
 read_job text = follow standard 99 3 (job standard text ample)
 
 abbrev job_ends : List (ℕ × ℕ) → Closing → Talk
@@ -159,7 +157,7 @@ unfolding all_open stream_open job_open
 seventeen = refl
 
 -- `{seeds: [0, 4294967295,], panel: b, sample: a}`: in braces, in any order, a comma at the end
-abbrev in_braces : List ℕ
+abbrev pub in_braces : List ℕ
 in_braces =
     123 ∷ seeds_are (48 ∷ 44 ∷ 32 ∷ 52 ∷ 50 ∷ 57 ∷ 52 ∷ 57 ∷ 54 ∷ 55 ∷ 50 ∷ 57 ∷ 53 ∷ 44 ∷ 93 ∷ 44 ∷ 32 ∷ panel_is (98 ∷ 44 ∷ 32 ∷ sample_is (97 ∷ 125 ∷ [])))
 
@@ -172,7 +170,3 @@ pub more_b : read_job (sample_is (97 ∷ 10 ∷ panel_is (98 ∷ 10 ∷ seeds_ar
     ≡ job_ends [] (refused_at 72 27 3 8 0)
 unfolding all_open stream_open job_open
 more_b = refl
-
--- the text in braces once more: its list is accepted and of the shape
-pub of_the_shape : JobDone standard in_braces 2 (read_job in_braces).handed
-of_the_shape = done_means standard in_braces ample 99 3 2 (ap (λ (t : Talk). t.last) more)

@@ -8,9 +8,7 @@ pub mod Calls
 pub mod Done
 pub mod Exactly
 pub mod Refused
-pub mod NotDone
 pub mod Handed
 pub mod Examples
 pub mod BlockSheet
 pub mod JobSheet
-pub mod SheetDone

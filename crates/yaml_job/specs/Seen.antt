@@ -1,6 +1,6 @@
 -- What the reader sees of a token tells its kind, and a scalar's style and text; and a number in its sense is one of the grammar's.
-use Rattle.std.specs.Prelude.{◌*◌, ◌+◌, ◌-◌, ◌≤◌, ℕ, Bool, ◌&&◌, ◌||◌, false, not, true, List, [], ◌++◌, ◌∷◌, ◌≡◌, refl, T, eqb, leb, get_or}
-use Rattle.std.proofs.Common.{append_assoc, append-nil, ◌∙◌, ap, subst, sym, arith, T_not, eqb-true, le-leb, leb-true, ne_eqb}
+use Rattle.std.specs.Prelude.{◌*◌, ◌+◌, ◌-◌, ◌≤◌, ℕ, Bool, ◌&&◌, ◌||◌, not, true, List, [], ◌++◌, ◌∷◌, ◌≡◌, refl, T, eqb, leb, get_or}
+use Rattle.std.proofs.Common.{append_assoc, append-nil, ◌∙◌, ap, subst, sym, arith, T_not, eqb-true, leb-true}
 use Rattle.std.proofs.lemmas.Bool.{eqb-false, not-true}
 use Rattle.yaml_text.specs.Char.{'0', '9'}
 use Rattle.yaml_text.specs.Class.{is_digit}
@@ -98,10 +98,6 @@ digit_is : (d : ℕ) → is_digit d ≡ true → ('0' ≤ d) × (d ≤ '9')
 unfolding is_digit
 digit_is d e = let b = both_true (leb '0' d) (leb d '9') e in (leb-true '0' d b.0, leb-true d '9' b.1)
 
-digit_fits : (d : ℕ) → d ≤ 9 → is_digit ('0' + d) ≡ true
-unfolding is_digit
-digit_fits d h = rw (le-leb '0' ('0' + d) (omega arith), le-leb ('0' + d) '9' (omega arith))
-
 digits_behind : (ds es : List ℕ) (v : ℕ) → Decimal ds v → 1 ≤ v → all_digits es ≡ true → Decimal (ds ++ es) (value_from v es)
 unfolding all_digits value_from
 digits_behind ds [] v h b e = rw (append-nil ds) h
@@ -139,56 +135,3 @@ number_is (d ∷ x ∷ ds) e =
     (rw (z, value_from) (digits_behind (d ∷ []) (x ∷ ds) (d - '0') k (omega arith) c.1), leb-true _ _ b.1)
 
 -- and the other way
-
-value_behind : (n d : ℕ) (ds : List ℕ) → value_from n (ds ++ (d ∷ [])) ≡ value_from n ds * 10 + (d - '0')
-unfolding value_from
-value_behind n d [] = refl
-value_behind n d (x ∷ ds) = value_behind (n * 10 + (x - '0')) d ds
-
-all_behind : (d : ℕ) (ds : List ℕ) → is_digit d ≡ true → all_digits ds ≡ true → all_digits (ds ++ (d ∷ [])) ≡ true
-unfolding all_digits
-all_behind d [] e f = rw e
-all_behind d (x ∷ ds) e f =
-    let b = both_true (is_digit x) (all_digits ds) f in
-    let g = all_behind d ds e b.1 in rw (b.0, g)
-
--- behind a number that is not 0 its first digit is not 0
-data Led (v : ℕ) : List ℕ → Type 0 where
-  led : {d : ℕ} {ds : List ℕ} → (1 ≤ v → eqb d '0' ≡ false) → well_led (d ∷ ds) ≡ true → Led v (d ∷ ds)
-
-led_behind : {v w : ℕ} {ds : List ℕ} (d : ℕ) → 1 ≤ v → Led v ds → Led w (ds ++ (d ∷ []))
-unfolding well_led
-led_behind d b (led {d = x} {ds = []} f g) = led {d = x} {ds = d ∷ []} (λ _. f b) (rw (f b))
-led_behind d b (led {d = x} {ds = y ∷ ys} f g) = led {d = x} {ds = y ∷ (ys ++ (d ∷ []))} (λ _. f b) (rw (f b))
-
-record Spells (ds : List ℕ) (v : ℕ) : Type 0 where
-  first : Led v ds
-  digits : all_digits ds ≡ true
-  is_value : value_from 0 ds ≡ v
-
-spells : {ds : List ℕ} {v : ℕ} → Decimal ds v → Spells ds v
-unfolding well_led all_digits value_from
-spells (digit {d = d} h) =
-    record { first = led (λ b. ne_eqb ('0' + d) '0' (λ e. omega arith)) refl; digits = rw (digit_fits d h); is_value = omega arith }
-spells (further {ds = ds} {v = v} {d = d} r b h) =
-    let i = spells r in
-    let e = i.is_value in
-    let f : '0' + d - '0' ≡ d = omega arith in
-    record {
-      first = led_behind ('0' + d) b i.first;
-      digits = all_behind ('0' + d) ds (digit_fits d h) i.digits;
-      is_value = rw (value_behind 0 ('0' + d) ds, e, f);
-    }
-
-pub number_said : {ds : List ℕ} {v : ℕ} → Decimal ds v → v ≤ most_seed → (is_number ds ≡ true) × (value_from 0 ds ≡ v)
-unfolding is_number
-number_said {ds} {v} r h =
-    let i = spells r in
-    let w : well_led ds ≡ true = led_well i.first in
-    let d = i.digits in
-    let e = i.is_value in
-    let l = le-leb v most_seed h in
-    (rw (w, d, e, l), e)
-  where
-    led_well : {us : List ℕ} → Led v us → well_led us ≡ true
-    led_well (led f g) = g

@@ -20,6 +20,5 @@ pub mod TagFits
 pub mod Role
 pub mod Sizes
 pub mod EscapeSizes
-pub mod QuotedSizes
 pub mod BlockSizes
 pub mod TagSizes

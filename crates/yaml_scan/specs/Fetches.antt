@@ -1,5 +1,5 @@
 -- What each fetch keeps: it goes on in the text behind its first character, what it says is placed, and the state behind it is sound.
-use Rattle.std.specs.Prelude.{◌+◌, ◌<◌, ◌≤◌, suc, ℕ, Bool, ◌&&◌, false, not, true, List, [], ◌++◌, ◌∷◌, map, ◌⊎◌, ◌≡◌, refl, drop, length}
+use Rattle.std.specs.Prelude.{◌+◌, ◌<◌, ◌≤◌, suc, ℕ, Bool, ◌&&◌, false, not, true, List, [], ◌++◌, ◌∷◌, ◌⊎◌, ◌≡◌, refl, drop, length}
 use Rattle.std.proofs.Common.{inl, inr, ◌∙◌, ap, sym, le_refl, arith, length-drop}
 use Rattle.yaml_text.specs.declared.Mark.{Mark}
 use Rattle.yaml_text.specs.Mark.{Place, here, over_bom, skip_by}
@@ -8,23 +8,22 @@ use Rattle.yaml_text.specs.Test.{by_pick, by_test, on_pick, true_false}
 use Rattle.yaml_text.specs.All.{All, all_any, all_bind, all_need, all_test, holds}
 use Rattle.yaml_text.specs.DecodeLaws.{NoNul, no_nul_drop}
 use Rattle.yaml_text.specs.PlaceLaws.{FurtherOn, fits_no_nul, fits_refl, fits_trans, left, skip_on}
-use Rattle.yaml_lexeme.specs.Token.{BlockMappingStart, BlockSequenceStart, FlowMappingEnd, FlowMappingStart, Kind, Lexeme, Token, empty_token}
+use Rattle.yaml_lexeme.specs.Token.{BlockMappingStart, BlockSequenceStart, FlowMappingEnd, Kind, Lexeme, Token}
 use Rattle.yaml_lexeme.specs.Fits.{Reads, blanks_and_comment_fit, flow_scalar_fit, plain_fit}
-use Rattle.yaml_lexeme.specs.BlockFits.{block_scalar_fit}
+use Rattle.yaml_lexeme.proofs.BlockFits.{block_scalar_fit}
 use Rattle.yaml_lexeme.specs.TagFits.{anchor_fit, directive_fit, tag_fit}
 use Rattle.yaml_scan.specs.declared.Candidate.{Candidate}
-use Rattle.yaml_scan.specs.declared.Candidate.TheVariants.{Absent, Possible}
 use Rattle.yaml_scan.specs.declared.Level.{Level}
 use Rattle.yaml_scan.specs.Indent.{Indents, drop_non_ending, top_ends}
 use Rattle.yaml_scan.specs.IndentLaws.{Same, same_refl, stack_same}
-use Rattle.yaml_scan.specs.Keys.{set_key, top_key}
+use Rattle.yaml_scan.specs.Keys.{top_key}
 use Rattle.yaml_scan.specs.declared.Limits.{Limits}
-use Rattle.yaml_scan.specs.State.{Event, News, State, allow, at_place, block_ends, counting, empty_if, ends_with, goes_on, in_flow, mark_of, on_level, put, put_before, puts, remove_key, save_key, unroll_to, with_indents}
+use Rattle.yaml_scan.specs.State.{Event, News, State, allow, at_place, block_ends, counting, empty_if, ends_with, goes_on, in_flow, mark_of, on_level, put, puts, remove_key, save_key, unroll_to, with_indents}
 use Rattle.yaml_scan.specs.Bracket.{closes_level, fetch_flow_collection_end, fetch_flow_collection_start, fetch_flow_entry, implicit_open, scan_bracket, stack_bracket}
-use Rattle.yaml_scan.specs.Value.{before_key, begins_pair, fetch_block_entry, fetch_key, roll_state, value_by, value_with, value_without}
+use Rattle.yaml_scan.specs.Value.{fetch_block_entry, fetch_key, roll_state}
 use Rattle.yaml_scan.specs.Document.{after_marker, fetch_byte_order_mark, fetch_directive, fetch_document_indicator, fetch_stream_end, forced, leave_blocks}
 use Rattle.yaml_scan.specs.Fetch.{fetch_anchor, fetch_block_scalar, fetch_flow_scalar, fetch_plain_scalar, fetch_tag}
-use Rattle.yaml_scan.specs.Candidates.{AllKnown, EmptyAt, Fall, Free, GivenToken, OnlyPuts, Placed, Ready, ReadyState, Sound, Tops, fall_less, fresh, given, given_length, known_more, known_next, late, note_at, noted_known, only_append, only_ends, only_if, only_one, only_placed, ready, stays_known, without_ready}
+use Rattle.yaml_scan.specs.Candidates.{AllKnown, Fall, GivenToken, OnlyPuts, Placed, Ready, ReadyState, Sound, fall_less, given, given_length, known_next, late, only_append, only_ends, only_if, only_one, only_placed, ready, stays_known, without_ready}
 
 -- behind the first character, at no later column
 abbrev pub behind_first : Place → Place
@@ -39,12 +38,12 @@ Fetched gs s (goes_on es t) = FurtherOn (behind_first s.place) t.place × (Ready
 Fetched gs s (ends_with es) = ReadyState gs s → Placed gs es
 
 -- what the events say, and the count, candidates and levels behind them
-record Told (gs : List GivenToken) (es : List Event) (n : ℕ) (ks : List Candidate) (ls : List Level) : Type 0 where
-  placed : Placed gs es
-  counted : n ≡ length gs + puts es
-  levelled : length ks ≡ suc (length ls)
-  known : AllKnown (given gs es) ks
-  ordered : Fall n ks
+pub record Told (gs : List GivenToken) (es : List Event) (n : ℕ) (ks : List Candidate) (ls : List Level) : Type 0 where
+  pub placed : Placed gs es
+  pub counted : n ≡ length gs + puts es
+  pub levelled : length ks ≡ suc (length ls)
+  pub known : AllKnown (given gs es) ks
+  pub ordered : Fall n ks
 
 -- behind them, at a place further on
 told_ready : {gs : List GivenToken} {es : List Event} {n : ℕ} {ks : List Candidate} {ls : List Level} {q : Place} (p : Place) → FurtherOn (behind_first p) q → NoNul p.rest
@@ -58,12 +57,12 @@ said_behind : {gs : List GivenToken} (s : State) {es : List Event} {t : State} �
 said_behind {gs} s {es} {t} f h =
     let k : Fetched gs s (goes_on es t) = (f, λ r. ((h r).placed, ready (told_ready s.place f r.no_nul (h r)))) in holds k
 
-said : {gs : List GivenToken} (s : State) {es : List Event} {t : State} → FurtherOn (skip_by 1 s.place) t.place
+pub said : {gs : List GivenToken} (s : State) {es : List Event} {t : State} → FurtherOn (skip_by 1 s.place) t.place
     → (ReadyState gs s → Told gs es t.count t.keys t.levels) → All News (Fetched gs s) (got (goes_on es t))
 said s f h = said_behind s (fits_trans (first_fit s.place) f) h
 
 -- where tokens are given and the candidates stay
-kept : {gs : List GivenToken} {n : ℕ} {ks : List Candidate} {ls : List Level} {p : Place} (es : List Event) → OnlyPuts es → Ready gs n ks ls p → Told gs es (n + puts es) ks ls
+pub kept : {gs : List GivenToken} {n : ℕ} {ks : List Candidate} {ls : List Level} {p : Place} (es : List Event) → OnlyPuts es → Ready gs n ks ls p → Told gs es (n + puts es) ks ls
 kept {gs} {n} {ks} es o r =
     record {
       placed = only_placed gs es o;
@@ -74,7 +73,7 @@ kept {gs} {n} {ks} es o r =
     }
 
 -- where a level is changed besides
-relevelled : {gs : List GivenToken} {es : List Event} {n : ℕ} {ks : List Candidate} {ls : List Level} (f : Level → Level) → Told gs es n ks ls → Told gs es n ks (on_level f ls)
+pub relevelled : {gs : List GivenToken} {es : List Event} {n : ℕ} {ks : List Candidate} {ls : List Level} (f : Level → Level) → Told gs es n ks ls → Told gs es n ks (on_level f ls)
 unfolding on_level
 relevelled {ls} f k =
     record { placed = k.placed; counted = k.counted; levelled = k.levelled ∙ ap suc (same_length ls); known = k.known; ordered = k.ordered }
@@ -99,20 +98,6 @@ saved {gs} s t e r =
       ordered = (omega arith, w.ordered);
     })
     (λ _. kept (put t ∷ []) (only_one t) r)
-
--- where the candidate is used up: tokens go in before its token, and another is given
-used : {gs : List GivenToken} {b : ℕ} {ks : List Candidate} {ls : List Level} {p : Place} (n : ℕ) (m : Mark) (ts : List Token) (t : Token) → Ready gs b ks ls p
-    → Free gs n m × Fall n (drop 1 ks) → EmptyAt m ts → Told gs (put_before n ts ∷ put t ∷ []) (b + puts (put_before n ts ∷ put t ∷ [])) (set_key Absent ks) ls
-unfolding given Placed puts
-used {gs} {b} {ks} n m ts t r f e =
-    let w = without_ready r in
-    record {
-      placed = (m, f.0, e, tt);
-      counted = ap (λ (k : ℕ). k + 1) r.counted;
-      levelled = w.levelled;
-      known = (tt, known_more (note_at n gs) (fresh t.start) (drop 1 ks) (noted_known gs n (drop 1 ks) f.1 w.known.1));
-      ordered = fall_less b (b + 1) (drop 1 ks) (omega arith) w.ordered;
-    }
 
 -- the small changes of the state
 
@@ -186,34 +171,6 @@ key_news gs limits s =
     all_need _ 46 (mark_of s) _ (all_bind _ (all_any (roll_state limits (mark_of s) s))
     (λ r _. said s (fits_refl _) (λ h. relevelled _
     (kept _ (only_two r.starts BlockMappingStart (mark_of s) _) (without_ready h)))))
-
-all_empty : (m : Mark) (kinds : List Kind) → EmptyAt m (map (λ (kind : Kind). empty_token kind m) kinds)
-all_empty m [] = tt
-all_empty m (kind ∷ kinds) = (refl, all_empty m kinds)
-
-value_with_news : (gs : List GivenToken) (limits : Limits) (n : ℕ) (k : Mark) (s : State) → (ReadyState gs s → Free gs n k × Fall n (drop 1 s.keys))
-    → All News (Fetched gs s) (value_with limits n k s)
-unfolding value_with
-value_with_news gs limits n k s f =
-    all_bind _ (all_any (roll_state limits k s))
-    (λ r _. said s (fits_refl _) (λ h. relevelled _ (used n k _ _ h (f h) (all_empty k (before_key (begins_pair s.levels) r.starts)))))
-
--- an empty token, or none, twice, and a token
-only_three : (b : Bool) (k : Kind) (b' : Bool) (k' : Kind) (m : Mark) (t : Token) → OnlyPuts ((empty_if b k m ++ empty_if b' k' m) ++ (put t ∷ []))
-only_three b k b' k' m t =
-    only_append (empty_if b k m ++ empty_if b' k' m) (put t ∷ []) (only_append (empty_if b k m) (empty_if b' k' m) (only_if b k m) (only_if b' k' m)) (only_one t)
-
-value_without_news : (gs : List GivenToken) (limits : Limits) (s : State) → All News (Fetched gs s) (value_without limits s)
-unfolding value_without
-value_without_news gs limits s =
-    all_need _ 46 (mark_of s) _ (all_bind _ (all_any (roll_state limits (mark_of s) s))
-    (λ r _. said s (fits_refl _) (λ h. relevelled _
-    (kept _ (only_three (begins_pair s.levels) FlowMappingStart r.starts BlockMappingStart (mark_of s) _) (without_ready h)))))
-
-pub value_by_news : (gs : List GivenToken) (limits : Limits) (k : Candidate) (s : State) → (ReadyState gs s → Tops gs s.keys k) → All News (Fetched gs s) (value_by limits k s)
-unfolding value_by
-value_by_news gs limits Absent s f = value_without_news gs limits s
-value_by_news gs limits (Possible required n k) s f = value_with_news gs limits n k s f
 
 -- scalars, tags and anchors
 

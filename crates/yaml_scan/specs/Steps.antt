@@ -3,7 +3,7 @@ use Rattle.std.specs.Prelude.{◌*◌, ◌+◌, ◌<◌, ◌≤◌, ℕ, Bool, f
 use Rattle.std.proofs.Common.{inl, inr, arith}
 use Rattle.yaml_text.specs.declared.Mark.{Mark}
 use Rattle.yaml_text.specs.Class.{is_blank, is_blank_or_breakz, is_break, is_breakz, is_z, peek}
-use Rattle.yaml_text.specs.Mark.{Place, edge_of, here, look, over}
+use Rattle.yaml_text.specs.Mark.{Place, here, look, over}
 use Rattle.yaml_text.specs.Refusal.{got}
 use Rattle.yaml_text.specs.Test.{by_pick, by_test}
 use Rattle.yaml_text.specs.All.{All, all_bind, all_both, all_weak, holds}
@@ -15,18 +15,11 @@ use Rattle.yaml_lexeme.specs.Block.{one_if}
 use Rattle.yaml_lexeme.specs.Fits.{skip_gap_fit}
 use Rattle.yaml_scan.specs.declared.Candidate.{Candidate}
 use Rattle.yaml_scan.specs.declared.Candidate.TheVariants.{Absent}
-use Rattle.yaml_scan.specs.declared.Limits.{Limits}
-use Rattle.yaml_scan.specs.IndentLaws.{blocks_of, unroll_blocks}
 use Rattle.yaml_scan.specs.Keys.{set_key, top_key}
-use Rattle.yaml_scan.specs.State.{News, State, allow, at_place, block_ends, counting, ends_with, goes_on, in_flow, lapse_key, mark_of, preceded, rest_of, with_indents, with_keys}
-use Rattle.yaml_scan.specs.Choice.{choice}
-use Rattle.yaml_scan.specs.Fetch.{fetch, fetch_next}
-use Rattle.yaml_scan.specs.Scan.{step, to_next_token, unrolled}
+use Rattle.yaml_scan.specs.State.{News, State, allow, at_place, counting, ends_with, goes_on, in_flow, lapse_key, mark_of, rest_of, with_indents, with_keys}
+use Rattle.yaml_scan.specs.Scan.{to_next_token, unrolled}
 use Rattle.yaml_scan.specs.Candidates.{Over}
-use Rattle.yaml_scan.specs.ChoiceLaws.{choice_says}
-use Rattle.yaml_scan.specs.Runs.{TakesOrEnds, lapsed, next_news, some_left}
-use Rattle.yaml_scan.specs.Moves.{Moves}
-use Rattle.yaml_scan.specs.FetchMoves.{fetch_moves, stream_end_moves}
+use Rattle.yaml_scan.specs.Runs.{lapsed}
 
 -- a blank or a break is passed over: from p, before which it stands, to q
 abbrev pub Spares : Place → Place → Type 0
@@ -91,35 +84,6 @@ abbrev pub Takes : State → News → Type 0
 Takes s (goes_on es u) = (left u.place < left s.place) × FurtherOn s.place u.place
 Takes s (ends_with es) = Unit {0}
 
-takes : (s : State) (w : News) → TakesOrEnds [] s w → Takes s w
-takes s (goes_on es u) h = (h.0, h.1)
-takes s (ends_with es) h = tt
-
-pub next_moves : (limits : Limits) (s : State) → All News (Moves s) (fetch_next limits s)
-unfolding choice fetch
-next_moves limits s =
-    by_test (is_z (look s.place))
-    (λ e. rw (e, choice) (stream_end_moves s))
-    (λ e. fetch_moves limits (choice s) s (choice_says s) (some_left (rest_of s) e))
-
 -- behind the ends of blocks
 abbrev pub unrolled_state : State → State
 unrolled_state s = counting (unrolled s).ended (with_indents (unrolled s).indents s)
-
--- to show something of every step, show it of every gap and move
-pub step_by : {Q : News → Type 0} (limits : Limits) (s : State)
-    → ((t : State) → Gapped s t → (w : News) → Moves (unrolled_state t) w → Takes (unrolled_state t) w → Q (preceded (block_ends (unrolled t).ended (mark_of t)) w))
-    → All News Q (step limits s)
-unfolding step
-step_by limits s h =
-    all_bind _ (to_next_token_gapped s)
-    (λ t g. all_bind _ (all_both (next_moves limits (unrolled_state t)) (next_news [] limits (unrolled_state t)))
-    (λ w k. holds (h t g w k.0 (takes (unrolled_state t) w k.1))))
-
--- the ends of blocks: each was open
-pub unrolled_blocks : (s : State) → (unrolled s).ended + blocks_of (unrolled s).indents ≡ blocks_of s.indents
-unfolding unrolled
-unrolled_blocks s =
-    by_test (in_flow s)
-    (λ e. rw (e, unrolled) (omega arith))
-    (λ e. rw (e, unrolled) (unroll_blocks (edge_of (mark_of s)) s.indents.indent s.indents.entries))

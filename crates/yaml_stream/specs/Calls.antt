@@ -1,7 +1,7 @@
 -- How many calls a run takes at most. Each character pays for two tokens, and three more come besides, in a text that is refused too: so of 2c + 4 calls the
 -- last gives no token.
-use Rattle.std.specs.Prelude.{◌*◌, ◌+◌, ◌≤◌, pred, suc, zero, ℕ, List, [], ◌++◌, ◌∷◌, ◌≡◌, ltb, length}
-use Rattle.std.proofs.Common.{ap, arith, length-append, ltb-false}
+use Rattle.std.specs.Prelude.{◌*◌, ◌+◌, ◌≤◌, pred, suc, zero, ℕ, List, [], ◌∷◌, ltb, length}
+use Rattle.std.proofs.Common.{arith, ltb-false}
 use Rattle.yaml_text.specs.declared.Decoded.{Decoded}
 use Rattle.yaml_text.specs.declared.Decoded.TheVariants.{Char, End, Ill}
 use Rattle.yaml_text.specs.Mark.{origin}
@@ -9,18 +9,15 @@ use Rattle.yaml_text.specs.Refusal.{Read}
 use Rattle.yaml_text.specs.Utf8.{chars, chars_after, first, more}
 use Rattle.yaml_text.specs.Test.{by_test}
 use Rattle.yaml_text.specs.All.{All, holds, not_read}
-use Rattle.yaml_text.specs.DecodeLaws.{Decodes, NoNul, decode_is}
-use Rattle.yaml_lexeme.specs.Token.{Token}
+use Rattle.yaml_text.specs.DecodeLaws.{Decodes, NoNul}
+use Rattle.yaml_text.proofs.DecodeLaws.{decode_is}
 use Rattle.yaml_scan.specs.declared.Limits.{Limits}
 use Rattle.yaml_scan.specs.State.{State}
 use Rattle.yaml_scan.specs.Scan.{begin}
 use Rattle.yaml_scan.specs.Slots.{flat, slots, tokens_of}
 use Rattle.yaml_scan.specs.Budget.{on_news}
 use Rattle.theorems.specs.TokenCount.{Good, begin_paid, none_paid, step_paid}
-use Rattle.yaml_stream.specs.Stream.{Stream, fresh, hear}
 use Rattle.yaml_stream.specs.Tale.{built, in_step, tale, text_tale, told, told_of}
-use Rattle.yaml_stream.specs.Given.{Ends, Own}
-use Rattle.yaml_stream.specs.Answers.{Comes, comes_owes, comes_to_end}
 
 tale_paid : (limits : Limits) (k : ℕ) (s : State) → Good s (tale limits k s).events
 unfolding tale
@@ -60,15 +57,3 @@ built_few limits text =
     by_test (ltb limits.bytes (length text))
     (λ e. rw (e, told) (omega arith))
     (λ e. omega (arith, ltb-false limits.bytes (length text) e, built_tokens limits text, chars_few 0 text))
-
--- so many tokens are given, whatever the number of calls
-pub given_most : (limits : Limits) (bytes : List ℕ) (words room : ℕ) {ts : List Token} {y : Stream} → Comes limits room (fresh limits bytes words) ts y → length ts ≤ 2 * length (chars bytes) + 3
-given_most limits bytes words room {ts = ts} r =
-    let h = comes_owes limits bytes words room r in
-    let e : length (built limits bytes) ≡ length (ts ++ h.0) = ap length h.1 in
-    omega (arith, length-append ts h.0, built_tokens limits bytes)
-
--- and one call more comes to an end
-pub calls_most : (limits : Limits) (bytes : List ℕ) (words room k : ℕ) → 2 * length (chars bytes) + 4 ≤ k
-    → Ends (Own words room (built limits bytes)) (built limits bytes) (told limits bytes).close (hear limits room k (fresh limits bytes words))
-calls_most limits bytes words room k h = comes_to_end limits bytes words room k (omega (arith, built_tokens limits bytes))

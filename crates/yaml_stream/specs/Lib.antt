@@ -13,7 +13,6 @@ pub mod Answers
 pub mod Numbers
 pub mod Calls
 pub mod Last
-pub mod Enough
 pub mod Nesting
 pub mod Depth
 pub mod Alone
@@ -38,4 +37,3 @@ pub mod StillKeys
 pub mod FetchLeaves
 pub mod StillKeysSteps
 pub mod KeysNear
-pub mod NoCrowd

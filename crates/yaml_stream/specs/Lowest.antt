@@ -3,13 +3,9 @@ use Rattle.std.specs.Prelude.{◌<◌, ◌≤◌, ℕ, Bool, ◌||◌, false, tr
 use Rattle.std.proofs.Common.{◌∙◌, ap, arith, ne_eqb}
 use Rattle.yaml_scan.specs.declared.Candidate.{Candidate}
 use Rattle.yaml_scan.specs.declared.Candidate.TheVariants.{Absent, Possible}
-use Rattle.yaml_scan.specs.declared.Limits.{Limits}
-use Rattle.yaml_scan.specs.State.{State}
-use Rattle.yaml_scan.specs.Slots.{Slot}
 use Rattle.yaml_scan.specs.Candidates.{Fall}
-use Rattle.yaml_stream.specs.Stream.{fresh, possible, scanning}
+use Rattle.yaml_stream.specs.Stream.{possible}
 use Rattle.yaml_stream.specs.Kept.{From}
-use Rattle.yaml_stream.specs.Waiting.{StreamReaches, fresh_keeps, reaches_keeps}
 
 -- the candidate of a level, unless one further out has one
 abbrev pub unless : Candidate → Candidate → Candidate
@@ -59,11 +55,3 @@ possible_lowest n b (Possible required k m ∷ ks) h f =
     by_lowest : (c : Candidate) → Between n k c → (eqb n k || names n c) ≡ names n (unless (Possible required k m) c)
     by_lowest Absent i = or_none (eqb n k)
     by_lowest (Possible r j p) i = rw (ne_eqb n k (λ e. omega (arith, i.0, i.1)))
-
--- in every stream that calls come to
-pub first_possible : (limits : Limits) (bytes : List ℕ) (words room : ℕ) {s : State} {n used : ℕ} {xs : List Slot}
-    → StreamReaches limits room (fresh limits bytes words) (scanning s n xs used)
-    → From n s.keys × Fall s.count s.keys × (possible n s.keys ≡ names n (lowest s.keys))
-first_possible limits bytes words room {s = s} {n = n} r =
-    let h = reaches_keeps limits room (fresh_keeps limits bytes words) r in
-    (h.from, h.falls, possible_lowest n s.count s.keys h.from h.falls)

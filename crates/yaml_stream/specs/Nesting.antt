@@ -1,6 +1,6 @@
 -- Demand 3's prefix rule for Ask 8: in every beginning of the tokens given each end closes the latest start still open, of its own kind,
 -- for a text that is refused, too.
-use Rattle.std.specs.Prelude.{suc, zero, ℕ, List, [], ◌++◌, ◌∷◌, ◌≡◌, ltb, length}
+use Rattle.std.specs.Prelude.{suc, zero, ℕ, List, [], ◌∷◌, ltb, length}
 use Rattle.yaml_text.specs.declared.Mark.{Mark}
 use Rattle.yaml_text.specs.Mark.{origin}
 use Rattle.yaml_text.specs.Refusal.{Read, got, refused}
@@ -17,14 +17,13 @@ use Rattle.yaml_scan.specs.Scan.{begin}
 use Rattle.yaml_scan.specs.Slots.{Slot, flat, slot, slots, tokens_of}
 use Rattle.yaml_scan.specs.Budget.{on_news}
 use Rattle.theorems.specs.Nested.{Nested, done, ended, then}
-use Rattle.theorems.specs.NestedLaws.{nested_append, nested_split}
+use Rattle.theorems.specs.NestedLaws.{nested_append}
 use Rattle.yaml_scan.specs.SlotLaws.{slots_append}
 use Rattle.theorems.specs.Opened.{Built, inside, outside}
 use Rattle.theorems.specs.NestingMoves.{Stands}
-use Rattle.theorems.specs.NestingSteps.{Closes, begin_stands, step_stands}
-use Rattle.yaml_stream.specs.Stream.{Stream, fresh}
+use Rattle.theorems.specs.NestingSteps.{Closes, begin_stands}
+use Rattle.theorems.proofs.NestingSteps.{step_stands}
 use Rattle.yaml_stream.specs.Tale.{built, in_step, tale, text_tale, told, told_of}
-use Rattle.yaml_stream.specs.Answers.{Comes, comes_owes}
 
 -- some starts are left open
 abbrev pub LeavesOpen : List Token → Type 0
@@ -69,12 +68,3 @@ pub built_nested : (limits : Limits) (bytes : List ℕ) → LeavesOpen (built li
 unfolding told
 built_nested limits bytes =
     by_test (ltb limits.bytes (length bytes)) (λ e. rw (e, told) nothing_opens) (λ e. rw (e, told) (told_opens limits (decode 0 origin bytes)))
-
-opens_first : (ts us vs : List Token) → ts ≡ us ++ vs → LeavesOpen ts → LeavesOpen us
-opens_first ts us vs e h = let s = nested_split us (rw e at h.1) in (s.0, s.1)
-
--- in every beginning of the tokens given, whatever came behind them
-pub every_prefix : (limits : Limits) (bytes : List ℕ) (words room : ℕ) (ts us vs : List Token) (y : Stream) → Comes limits room (fresh limits bytes words) ts y → ts ≡ us ++ vs → LeavesOpen us
-every_prefix limits bytes words room ts us vs y r e =
-    let k = comes_owes limits bytes words room r in
-    opens_first ts us vs e (opens_first (built limits bytes) ts k.0 k.1 (built_nested limits bytes))

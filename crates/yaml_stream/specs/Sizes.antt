@@ -9,9 +9,10 @@ use Rattle.yaml_scan.specs.State.{Event, State, put, put_before}
 use Rattle.yaml_scan.specs.Scan.{begin}
 use Rattle.yaml_scan.specs.Slots.{Slot, flat, note, slot, slots, tokens_of}
 use Rattle.yaml_scan.specs.Candidates.{GivenToken, Placed, Sound, fresh, given, placed_append}
-use Rattle.yaml_scan.specs.Runs.{step_news}
+use Rattle.yaml_scan.proofs.Runs.{step_news}
 use Rattle.yaml_scan.specs.Budget.{begin_sound, on_news}
-use Rattle.yaml_scan.specs.SlotLaws.{tokens_total, total}
+use Rattle.yaml_scan.specs.SlotLaws.{total}
+use Rattle.yaml_scan.proofs.SlotLaws.{tokens_total}
 use Rattle.yaml_stream.specs.Stream.{brings}
 use Rattle.yaml_stream.specs.Tale.{in_step, tale, text_tale}
 

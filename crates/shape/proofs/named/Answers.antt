@@ -1,7 +1,5 @@
 -- By the name.
-use Prim.Native.Nat.{ℕ}
 use mathlib.Core.Bool.{false}
-use mathlib.Core.List.{List}
 use mathlib.Core.Path.{◌∙◌, ◌≡◌, sym}
 use Rattle.yaml_text.specs.Class.{same}
 use Rattle.yaml_job.specs.declared.Field.TheVariants.{Panel, Sample}

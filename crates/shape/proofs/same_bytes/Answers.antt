@@ -1,9 +1,6 @@
 -- As long as the bytes are the same, what is left decides.
-use Prim.Native.Nat.{◌-◌, ◌≤◌}
-use mathlib.Core.Path.{◌≡◌, refl}
+use mathlib.Core.Path.{refl}
 use native.Mathlib.Omega.{arith}
-use lib.ListN.{drop, length}
-use Rattle.yaml_text.specs.Class.{same}
 use Rattle.records.proofs.Same.{all_same, other_length, other_word, same_word}
 use Rattle.shape.proofs.same_bytes.Goals as goal
 

@@ -20,7 +20,8 @@ fetch_flow_collection_end-requires c = let k = c.requires.0 in (k.ready, told k 
 pub fetch_flow_entry-requires : goal.fetch_flow_entry-requires
 fetch_flow_entry-requires c =
     let p = c.requires in
-    let t = told p.0 (only_comma _ p.1 c.in_default.in_default-own.keys5) in
+    let d = c.in_default in
+    let t = told p.0 (only_comma _ p.1 d.not-AtPlain d.not-AtDash d.not-Opens d.not-Closes) in
     (p.0.ready, t.0, t.1)
 
 pub returns-in-AtPlain : goal.returns-in-AtPlain
@@ -41,4 +42,7 @@ returns-in-Closes c = step_quiet c.args.bytes.now c.requires.0 c.in-Closes.is re
 
 pub returns-in_default : goal.returns-in_default
 unfolding fetch
-returns-in_default c = step_quiet c.args.bytes.now c.requires.0 (only_comma _ c.requires.1 c.in_default.in_default-own.keys5) refl (c.fetch_flow_entry.ensures c.args.n)
+returns-in_default c =
+    let p = c.requires in
+    let d = c.in_default in
+    step_quiet c.args.bytes.now p.0 (only_comma _ p.1 d.not-AtPlain d.not-AtDash d.not-Opens d.not-Closes) refl (c.fetch_flow_entry.ensures c.args.n)

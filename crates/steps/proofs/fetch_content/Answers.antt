@@ -19,7 +19,8 @@ fetch_flow_scalar-requires c = let k = c.requires.0 in (k.ready, told k c.in-AtQ
 pub fetch_tag-requires : goal.fetch_tag-requires
 fetch_tag-requires c =
     let p = c.requires in
-    let t = told p.0 (only_tag _ p.1 p.2 c.in_default.in_default-own.keys5) in
+    let d = c.in_default in
+    let t = told p.0 (only_tag _ p.1 p.2 d.not-AtDirective d.not-AtAnchor d.not-AtBlock d.not-AtQuoted) in
     (p.0.ready, t.0, p.0.room, t.1)
 
 pub returns-in-AtDirective : goal.returns-in-AtDirective
@@ -40,4 +41,7 @@ returns-in-AtQuoted c = step_by c.requires.0 c.in-AtQuoted.is c.fetch_flow_scala
 
 pub returns-in_default : goal.returns-in_default
 unfolding fetch
-returns-in_default c = let p = c.requires in step_by p.0 (only_tag _ p.1 p.2 c.in_default.in_default-own.keys5) c.fetch_tag.ensures
+returns-in_default c =
+    let p = c.requires in
+    let d = c.in_default in
+    step_by p.0 (only_tag _ p.1 p.2 d.not-AtDirective d.not-AtAnchor d.not-AtBlock d.not-AtQuoted) c.fetch_tag.ensures

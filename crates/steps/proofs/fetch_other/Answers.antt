@@ -19,7 +19,9 @@ pub fetch_value-requires : goal.fetch_value-requires
 fetch_value-requires c = let k = c.requires.0 in (k.ready, told k c.in-AtColon.is)
 
 pub fetch_content-requires : goal.fetch_content-requires
-fetch_content-requires c = (c.requires.0, c.requires.1, only_texts c.args.c c.requires.1 c.in_default.in_default-own.keys8)
+fetch_content-requires c =
+    let d = c.in_default in
+    (c.requires.0, c.requires.1, only_texts c.args.c c.requires.1 d.not-AtEnd d.not-AtByteOrderMark d.not-BelowIndent d.not-Stray d.not-AtMarker d.not-AtQuestion d.not-AtColon)
 
 pub returns-in-AtEnd : goal.returns-in-AtEnd
 unfolding fetch

@@ -1,6 +1,4 @@
 -- What stands first is the first character, or there is none.
-use Prim.Native.Nat.{ℕ}
-use mathlib.Core.List.{List}
 use mathlib.Core.Path.{◌∙◌, sym}
 use lib.ListN.{drop}
 use Rattle.yaml_text.specs.Utf8Laws.{first_past}

@@ -5,7 +5,7 @@ use mathlib.Core.Path.{◌∙◌, ◌≡◌, sym}
 use native.Mathlib.Omega.{arith}
 use lib.ListN.{drop, length, length-drop}
 use Rattle.yaml_text.specs.Utf8.{first}
-use Rattle.yaml_text.specs.Utf8Laws.{first_fits}
+use Rattle.yaml_text.proofs.Utf8Laws.{first_fits}
 use Rattle.yaml_text.specs.declared.Decoded.TheVariants.{Char}
 use borrow.Author.Rules.{rules}
 use Rattle.showing.proofs.show.char_len.Goals as goal

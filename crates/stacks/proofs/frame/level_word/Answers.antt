@@ -1,5 +1,4 @@
 -- A flag as a number is at most 1, so the sum of four of them, times 1, 2, 4 and 8, wraps nowhere.
-use Prim.Native.Nat.{ℕ}
 use mathlib.Core.Bool.{Bool, false, true}
 use mathlib.Core.Path.{◌≡◌, refl}
 use native.Mathlib.Omega.{arith}

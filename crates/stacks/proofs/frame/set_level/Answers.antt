@@ -1,6 +1,5 @@
 -- One word is stored: that of the level.
 use Rattle.stacks.proofs.Frames.{level_stored}
-use Rattle.stacks.proofs.frame.level_word.Reads as level-word-reads
 use Rattle.stacks.proofs.frame.set_level.Goals as goal
 
 pub returns : goal.returns

@@ -1,6 +1,6 @@
 -- Each turn drops the entry that the definition drops, so what is left gives the whole.
 use borrow.Author.Tests.{eq-eqb, ne_eqb}
-use Rattle.stacks.proofs.Drops.{Dropping, dropped_none, dropped_stop, dropping_more, dropping_start}
+use Rattle.stacks.proofs.Drops.{dropped_none, dropped_stop, dropping_more, dropping_start}
 use Rattle.stacks.proofs.indent.drop_non_ending.Goals as goal
 
 pub loop-depth-init : goal.loop-depth-init

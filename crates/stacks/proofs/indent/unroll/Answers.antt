@@ -1,6 +1,6 @@
 -- Each turn drops the entry that the definition drops and counts its end, so what is left gives the whole.
 use borrow.Author.Tests.{le-ltb, lt-ltb}
-use Rattle.stacks.proofs.Drops.{Unrolling, unrolled_none, unrolled_stop, unrolling_more, unrolling_start}
+use Rattle.stacks.proofs.Drops.{unrolled_none, unrolled_stop, unrolling_more, unrolling_start}
 use Rattle.stacks.proofs.indent.unroll.Goals as goal
 
 pub loop-depth-init : goal.loop-depth-init

@@ -1,0 +1,12 @@
+pub mod Seen
+pub mod ReadsLaws
+pub mod Fits
+pub mod Calls
+pub mod Done
+pub mod Exactly
+pub mod Refused
+pub mod NotDone
+pub mod Handed
+pub mod Examples
+pub mod BlockSheet
+pub mod SheetDone

@@ -1,0 +1,4 @@
+pub mod BlockFits
+pub mod EscapeFits
+pub mod EscapeSizes
+pub mod QuotedSizes

@@ -1,0 +1,9 @@
+pub mod Fetches
+pub mod ChoiceLaws
+pub mod Runs
+pub mod Required
+pub mod Budget
+pub mod SlotLaws
+pub mod FetchMoves
+pub mod Steps
+pub mod Removal

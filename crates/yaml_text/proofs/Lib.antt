@@ -1,0 +1,4 @@
+pub mod Utf8Laws
+pub mod ByteLaws
+pub mod Utf8Both
+pub mod DecodeLaws
