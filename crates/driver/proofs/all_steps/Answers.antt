@@ -3,7 +3,6 @@ use lib.ListN.{drop}
 use mathlib.Core.List.{◌++◌}
 use mathlib.Core.Path.{◌∙◌}
 use Rattle.stacks.specs.Stack.{stack_words}
-use Rattle.driver.proofs.Leaving.{LengthsKept}
 use Rattle.driver.proofs.Looping.{Asking, asking_asks, asking_holds, asking_on, asking_pauses, asking_room, asking_stops, asking_until, kept_on, looping_asks, looping_ends, looping_gives, looping_holds, looping_less, looping_start, looping_stops}
 use Rattle.driver.proofs.all_steps.Goals as goal
 use Rattle.driver.proofs.all_steps.Goals.{After-anew-t}

@@ -1,6 +1,5 @@
 -- A token that is brief says one event: it is stored and counted as the definition has it.
 use mathlib.Core.Path.{ap, refl}
-use native.Mathlib.Omega.{arith}
 use Rattle.states.specs.Brief.{brief_fetched}
 use Rattle.storing.specs.Token.{fetched_as, going}
 use Rattle.driver.proofs.Taken.{chosen, taken_countable, taken_goes, taken_refused}

@@ -15,24 +15,24 @@ returns-in-Refused c =
 pub counting-m-requires : goal.counting-m-requires
 counting-m-requires c =
     let said : FetchedEvent c.fetch_other-r.result c.match-r.e =
-        elim c.match-r.branch [ in-Ends w ↦ fetched_as w.in-Ends.is w.e-is at_end | in-Goes w ↦ fetched_as w.in-Goes.is w.e-is going ] in
+    elim c.match-r.branch [ in-Ends w ↦ fetched_as w.in-Ends.is w.e-is at_end | in-Goes w ↦ fetched_as w.in-Goes.is w.e-is going ] in
     taken_countable c.requires.0 c.args.ended c.requires.2 c.ending-k.ensures c.args.c c.fetch_other-r.ensures said
 
 pub returns-in-Goes-r : goal.returns-in-Goes-r
 returns-in-Goes-r c =
     let a = c.args in
     elim c.match-r.branch [
-      in-Ends w ↦ absurd (cc)
-    | in-Goes w ↦
-      taken_goes c.requires.0 a.ended c.requires.2 c.ending-k.ensures a.c a.words.now c.fetch_other-r.ensures c.put_news.ensures c.counting-m.ensures
-      (it_goes w.in-Goes.is w.e-is w.r-is c.in-Goes-r.is) c.fetch_other-r.auto.stacks
+      | in-Ends w ↦ absurd (cc)
+      | in-Goes w ↦
+          taken_goes c.requires.0 a.ended c.requires.2 c.ending-k.ensures a.c a.words.now c.fetch_other-r.ensures c.put_news.ensures c.counting-m.ensures
+          (it_goes w.in-Goes.is w.e-is w.r-is c.in-Goes-r.is) c.fetch_other-r.auto.stacks
     ]
 
 pub returns-in_default : goal.returns-in_default
 returns-in_default c =
     let a = c.args in
     elim c.match-r.branch [
-      in-Ends w ↦ taken_ends c.requires.0 a.ended c.requires.2 c.ending-k.ensures a.c a.words.now c.fetch_other-r.ensures c.put_news.ensures c.counting-m.ensures
-      (it_ends w.in-Ends.is w.e-is)
-    | in-Goes w ↦ absurd (c.in_default.not-Goes _ _ w.r-is)
+      | in-Ends w ↦ taken_ends c.requires.0 a.ended c.requires.2 c.ending-k.ensures a.c a.words.now c.fetch_other-r.ensures c.put_news.ensures c.counting-m.ensures
+          (it_ends w.in-Ends.is w.e-is)
+      | in-Goes w ↦ absurd (c.in_default.not-Goes _ _ w.r-is)
     ]

@@ -1,10 +1,7 @@
 -- Nine words are stored one after the other: those of the state.
-use mathlib.Core.Path.{◌∙◌, ap}
 use native.Mathlib.Omega.{arith}
-use lib.ListN.{length, length-set}
-use lib.Seq.{length-sets}
+use lib.ListN.{length-set}
 use Rattle.stacks.specs.Bit.{bit_low}
-use Rattle.driver.specs.Held.{state_at, state_words}
 use Rattle.driver.proofs.Words.{state_put, whole_word}
 use Rattle.driver.proofs.held.store_state.Goals as goal
 
