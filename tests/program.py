@@ -127,6 +127,12 @@ def usage(folder):
             with open(file, "wb") as f:
                 r = run(["job", sheet, option, file], **{stream: f})
             expect(r.returncode == 2 and os.path.exists(file), f"{option} is where {stream} goes", r)
+    old = os.path.join(folder, "old")
+    with open(old, "w") as f:
+        f.write("done 3\n")
+    for args in [["job", b"a\xff", "--record", old], ["job", sheet, "--seeds", b"a\xff", "--record", old], ["job", "--record", old, "--", b"-\xff"], ["tokens", b"a\xff"]]:
+        r = run(args)
+        expect(r.returncode == 2 and r.stdout == b"" and b"not UTF-8" in r.stderr and held(old) == "done 3\n", f"a name that is not UTF-8 {args}", r)
     r = run(["--help"])
     expect(r.returncode == 0 and b"tokenglade job" in r.stdout, "--help", r)
     print("usage", flush=True)

@@ -15,7 +15,7 @@ use Rattle.yaml_text.specs.Mark as definition
 use Rattle.yaml_text.specs.Test.{both_true, by_test, true_false}
 use Rattle.yaml_text.specs.Utf8.{chars, encode}
 use Rattle.yaml_lexeme.specs.Block.{BetweenLines, Layout, behind, between, inside, lines_on, margin, opens_content, separator}
-use Rattle.yaml_text.proofs.PlaceLaws.{fits_left, run_of_fit}
+use Rattle.yaml_text.specs.PlaceLaws.{fits_left, run_of_fit}
 use Rattle.chars.specs.declared.mark.Place.{Place}
 use Rattle.chars.specs.View.{Moves, view}
 use Rattle.chars.specs.Parts.{Spans}

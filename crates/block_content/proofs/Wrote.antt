@@ -6,7 +6,7 @@ use native.Mathlib.Omega.{arith}
 use lib.ListN.{length, length-append}
 use lib.Seq.{sets}
 use Rattle.yaml_text.specs.Utf8.{encode}
-use Rattle.yaml_text.proofs.Utf8Laws.{encode_append}
+use Rattle.yaml_text.specs.Utf8Laws.{encode_append}
 use Rattle.rooms.specs.Room.{sets_join}
 use Rattle.reading.specs.Puts.{Puts}
 use Rattle.block_content.specs.Lines.{ContentLines, before_lines}

@@ -10,7 +10,8 @@ use Rattle.yaml_text.specs.Char.{byte_order_mark}
 use Rattle.yaml_text.specs.Class.{peek}
 use Rattle.yaml_text.specs.Test.{by_test}
 use Rattle.yaml_text.specs.Utf8.{char_bytes, chars, first}
-use Rattle.yaml_text.proofs.Utf8Laws.{chars_end, chars_next, chars_none, first_bytes, first_fits}
+use Rattle.yaml_text.specs.Utf8Laws.{chars_end, chars_none}
+use Rattle.yaml_text.proofs.Utf8Laws.{chars_next, first_bytes, first_fits}
 use Rattle.yaml_text.proofs.ByteLaws.{ascii_class}
 use Rattle.utf8.proofs.Laws.{plain_at}
 use Rattle.chars.specs.Ascii.{Ascii, ascii_low, low, one}

@@ -9,7 +9,8 @@ use Rattle.yaml_text.specs.Class.{among, is_blank_or_breakz, is_bom, is_flow, is
 use Rattle.yaml_text.specs.Mark.{edge_of, is_marker}
 use Rattle.yaml_text.specs.Test.{both_true, on_pick}
 use Rattle.yaml_text.specs.Utf8.{chars}
-use Rattle.yaml_text.proofs.Utf8Laws.{bytes1, first_bytes}
+use Rattle.yaml_text.specs.Utf8Laws.{bytes1}
+use Rattle.yaml_text.proofs.Utf8Laws.{first_bytes}
 use Rattle.yaml_scan.specs.declared.Choice.{Choice}
 use Rattle.yaml_scan.specs.declared.Choice.TheVariants.{AtAnchor, AtBlock, AtByteOrderMark, AtColon, AtComma, AtDash, AtDirective, AtEnd, AtMarker, AtPlain, AtQuestion, AtQuoted, AtTag, BelowIndent, Closes, Opens, Stray}
 use Rattle.yaml_scan.specs.Choice.{choice, indicator}

@@ -8,9 +8,9 @@ use Rattle.yaml_text.specs.Utf8.{by_len, char_if, first, four, is_scalar, is_tai
 use Rattle.yaml_scan.specs.declared.Limits.{Limits}
 use Rattle.yaml_scan.specs.State.{Event, State}
 use Rattle.yaml_scan.specs.Scan.{begin}
-use Rattle.yaml_scan.proofs.Runs.{StepsReach, here, then_step}
+use Rattle.yaml_scan.specs.Runs.{StepsReach, here, then_step}
 use Rattle.yaml_text.specs.All.{all_got}
-use Rattle.yaml_stream.proofs.Here.{Levelled, step_levelled}
+use Rattle.yaml_stream.specs.Here.{Levelled, step_levelled}
 
 -- no lead byte has a length above 4: the last case of `by_len` is 4
 pub len_most : (a : ℕ) → len_of a ≤ 4

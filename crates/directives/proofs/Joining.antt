@@ -16,7 +16,7 @@ use Rattle.yaml_text.specs.Mark as definition
 use Rattle.yaml_text.specs.Refusal.{before_read, got}
 use Rattle.yaml_text.specs.Test.{by_test, true_false}
 use Rattle.yaml_text.specs.Utf8.{char_bytes, chars, encode}
-use Rattle.yaml_text.proofs.Utf8Laws.{encode_append}
+use Rattle.yaml_text.specs.Utf8Laws.{encode_append}
 use Rattle.yaml_lexeme.specs.Directive.{blanks_at, parameters}
 use Rattle.chars.specs.declared.mark.Place.{Place}
 use Rattle.chars.specs.Parts.{Spans, part}

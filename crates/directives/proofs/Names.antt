@@ -15,7 +15,7 @@ use Rattle.yaml_text.specs.Mark as definition
 use Rattle.yaml_text.specs.Refusal.{got}
 use Rattle.yaml_text.specs.Test.{by_test, on_pick}
 use Rattle.yaml_text.specs.Utf8.{char_bytes, encode}
-use Rattle.yaml_text.proofs.Utf8Laws.{bytes1}
+use Rattle.yaml_text.specs.Utf8Laws.{bytes1}
 use Rattle.yaml_lexeme.specs.Directive.{directive_of, reserved_directive, tag_directive, tag_name, version_directive, yaml_name}
 use Rattle.chars.specs.declared.mark.Place.{Place}
 use Rattle.chars.specs.Parts.{Spans, part}

@@ -9,7 +9,7 @@ use Rattle.rooms.specs.Room.{sets_join}
 use Rattle.yaml_text.specs.declared.Mark.{Mark}
 use Rattle.yaml_text.specs.Mark.{Run, along, skip_by}
 use Rattle.yaml_text.specs.Utf8.{encode}
-use Rattle.yaml_text.proofs.Utf8Laws.{encode_append}
+use Rattle.yaml_text.specs.Utf8Laws.{encode_append}
 use Rattle.chars.specs.declared.mark.Place.{Place}
 use Rattle.chars.specs.Bytes.{CharAt}
 use Rattle.chars.specs.Parts.{Spans, part, part_join, part_more, part_none}

@@ -16,7 +16,7 @@ use Rattle.yaml_text.specs.Pick.{pick}
 use Rattle.yaml_text.specs.Refusal.{◌>>=◌, need}
 use Rattle.yaml_text.specs.Test.{both_true}
 use Rattle.yaml_text.specs.Utf8.{chars}
-use Rattle.yaml_text.proofs.Utf8Laws.{bytes1}
+use Rattle.yaml_text.specs.Utf8Laws.{bytes1}
 use Rattle.yaml_lexeme.specs.declared.Kind.TheVariants as held_as
 use Rattle.yaml_lexeme.specs.declared.Token as held
 use Rattle.yaml_lexeme.specs.Gap.{blanks_and_comment}

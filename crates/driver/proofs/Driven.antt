@@ -9,13 +9,13 @@ use lib.ListN.{length}
 use borrow.Author.Tests.{ltb-false, ltb-true}
 use Rattle.yaml_text.specs.Refusal.{Read, got, refused}
 use Rattle.yaml_text.specs.Test.{by_test}
-use Rattle.yaml_text.proofs.PlaceLaws.{left}
+use Rattle.yaml_text.specs.PlaceLaws.{left}
 use Rattle.yaml_scan.specs.declared.Limits.{Limits}
 use Rattle.yaml_scan.specs.State.{Event, News, State, ends_with, goes_on, put, put_before, puts}
-use Rattle.yaml_scan.proofs.SlotLaws.{total}
+use Rattle.yaml_scan.specs.SlotLaws.{total}
 use Rattle.yaml_scan.specs.Scan.{Outcome, after_events, after_step, run, scanned, step, stopped}
 use Rattle.yaml_scan.specs.Scan as scans
-use Rattle.yaml_scan.proofs.Budget.{on_news}
+use Rattle.yaml_scan.specs.Budget.{on_news}
 use Rattle.yaml_scan.proofs.Runs.{step_news}
 use Rattle.events.specs.declared.Counts.{Counts}
 use Rattle.sink.specs.Stored.{CountsBehind}

@@ -15,8 +15,8 @@ use Rattle.yaml_text.specs.Test.{by_pick, by_test}
 use Rattle.yaml_scan.specs.declared.Candidate.{Candidate}
 use Rattle.yaml_scan.specs.declared.Candidate.TheVariants.{Absent, Possible}
 use Rattle.yaml_stream.specs.Stream.{most_waiting, too_many_wait}
-use Rattle.yaml_stream.proofs.Levels.{level_key}
-use Rattle.yaml_stream.proofs.Lowest.{names}
+use Rattle.yaml_stream.specs.Levels.{level_key}
+use Rattle.yaml_stream.specs.Lowest.{names}
 use Rattle.stacks.specs.Frame.{frame_keys, key_of, keys_length}
 use Rattle.events.specs.declared.Counts.{Counts}
 use Rattle.states.specs.declared.State.{State}

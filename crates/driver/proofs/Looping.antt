@@ -7,7 +7,7 @@ use native.Mathlib.Omega.{arith}
 use lib.ListN.{drop, length}
 use lib.Seq.{drop_at, length_front, length-take-le, take_at}
 use Rattle.yaml_text.specs.declared.Refusal.{Refusal}
-use Rattle.yaml_text.proofs.PlaceLaws.{left}
+use Rattle.yaml_text.specs.PlaceLaws.{left}
 use Rattle.yaml_scan.specs.declared.Limits.{Limits}
 use Rattle.yaml_scan.specs.State.{Event}
 use Rattle.yaml_scan.specs.Scan.{step}

@@ -1,7 +1,7 @@
 -- What the loop over steps promises, for every state that may be held and whatever it is lent.
 use Rattle.std.specs.Prelude.{◌≤◌, suc, ℕ, Bool, List, ◌++◌, ◌≡◌, drop, length, take}
 use Rattle.yaml_text.specs.declared.Refusal.{Refusal}
-use Rattle.yaml_text.proofs.PlaceLaws.{left}
+use Rattle.yaml_text.specs.PlaceLaws.{left}
 use Rattle.yaml_scan.specs.declared.Limits.{Limits}
 use Rattle.yaml_scan.specs.State.{Event}
 use Rattle.yaml_scan.specs.State as definition

@@ -13,7 +13,7 @@ use Rattle.yaml_text.specs.Class.{among, peek}
 use Rattle.yaml_text.specs.Refusal.{◌>>=◌, got, need, refused}
 use Rattle.yaml_text.specs.Test.{by_test}
 use Rattle.yaml_text.specs.Utf8.{chars, is_scalar}
-use Rattle.yaml_text.proofs.Utf8Laws.{bytes1}
+use Rattle.yaml_text.specs.Utf8Laws.{bytes1}
 use Rattle.yaml_lexeme.specs.declared.Named.TheVariants.{Digits, Stands, Unknown}
 use Rattle.yaml_lexeme.specs.Table.{looked_up}
 use Rattle.yaml_lexeme.specs.Escape.{Row, escape, escape_of, escapes, named}

@@ -19,7 +19,7 @@ use Rattle.yaml_text.specs.Test.{by_pick, by_test, true_false}
 use Rattle.yaml_text.specs.Utf8.{chars}
 use Rattle.yaml_lexeme.specs.declared.Before.{Before}
 use Rattle.yaml_lexeme.specs.declared.Before.TheVariants.{AfterText, InComment, Leading, Spaced, Tabbed}
-use Rattle.yaml_text.proofs.PlaceLaws.{fits_left}
+use Rattle.yaml_text.specs.PlaceLaws.{fits_left}
 use Rattle.yaml_lexeme.specs.Fits.{to_break_fit}
 use Rattle.yaml_lexeme.specs.Gap.{Gap, blanks, comment_after, gap_turn, is_leading, on_blank, on_hash, on_other, skip_gap, stop, to_break}
 use Rattle.yaml_lexeme.specs.Turns.{blanks_more, blanks_stop, gap_turned, to_break_more, to_break_stop}

@@ -3,7 +3,8 @@ use Rattle.std.specs.Prelude.{◌+◌, ◌-◌, ℕ, List, ◌++◌, ◌≡◌, 
 use Rattle.std.proofs.Common.{append_assoc, append-nil, ◌∙◌, ap, sym, arith, drop-drop, take-add}
 use Rattle.yaml_text.specs.Mark.{Run, along_by, before_run, nothing_at}
 use Rattle.yaml_text.specs.Utf8.{chars, encode}
-use Rattle.yaml_text.proofs.Utf8Laws.{encode_append, first_bytes}
+use Rattle.yaml_text.specs.Utf8Laws.{encode_append}
+use Rattle.yaml_text.proofs.Utf8Laws.{first_bytes}
 use Rattle.chars.specs.declared.mark.Place.{Place}
 use Rattle.chars.specs.Reach.{Reach, more, none, reach_within}
 use Rattle.chars.specs.View.{Stands, past, view}

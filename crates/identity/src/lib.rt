@@ -2,10 +2,9 @@
 #![tactic(auto)]
 
 use outlets::path;
-use std::fs;
 use std::fs::Metadata;
-use std::io;
 use std::os::unix::fs::MetadataExt;
+use std::{fs, io};
 
 // The file, where there is one: its device and its number there, and its kind.
 #[derive(Clone, Copy)]

@@ -9,7 +9,7 @@ use Rattle.yaml_lexeme.specs.Record.{mark_in, record_of}
 use Rattle.yaml_lexeme.specs.Token.{Token, token_bytes}
 use Rattle.yaml_scan.specs.declared.Limits.{Limits}
 use Rattle.yaml_scan.specs.Scan.{standard}
-use Rattle.yaml_stream.proofs.Answers.{ended_again, ended_stays, then_call}
+use Rattle.yaml_stream.specs.Answers.{ended_again, ended_stays, then_call}
 use Rattle.yaml_stream.specs.Stream.{Called, Stream, call, called, closing, ended, refusal, spent, token}
 use Rattle.yaml_stream.specs.Stream as stream
 use Rattle.yaml_job.specs.declared.Effect.{Effect}

@@ -4,8 +4,9 @@ use Rattle.std.specs.Prelude.{◌*◌, ◌+◌, ◌≤◌, ℕ, List, length}
 use Rattle.std.proofs.Common.{ap, arith, length-append}
 use Rattle.yaml_lexeme.specs.Token.{Token}
 use Rattle.yaml_scan.specs.declared.Limits.{Limits}
-use Rattle.yaml_stream.proofs.Answers.{Comes, comes_owes}
-use Rattle.yaml_stream.proofs.Calls.{built_few}
+use Rattle.yaml_stream.specs.Answers.{Comes}
+use Rattle.yaml_stream.proofs.Answers.{comes_owes}
+use Rattle.yaml_stream.specs.Calls.{built_few}
 use Rattle.yaml_stream.specs.Stream.{Stream, fresh}
 
 pub given_few : (limits : Limits) (text : List ℕ) (words room : ℕ) {ts : List Token} {x : Stream}

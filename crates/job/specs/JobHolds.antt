@@ -3,7 +3,7 @@
 use Rattle.std.specs.Prelude.{◌≤◌, ℕ, List, [], ◌≡◌, length, take}
 use Rattle.yaml_lexeme.specs.Token.{Token}
 use Rattle.yaml_scan.specs.declared.Limits.{Limits}
-use Rattle.yaml_stream.proofs.Answers.{Comes}
+use Rattle.yaml_stream.specs.Answers.{Comes}
 use Rattle.yaml_stream.specs.Stream.{Stream, closing, fresh}
 use Rattle.yaml_job.specs.declared.Closing.{Closing}
 use Rattle.yaml_job.specs.declared.JobAnswer.{JobAnswer}

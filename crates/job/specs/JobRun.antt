@@ -7,7 +7,7 @@ use Rattle.yaml_lexeme.specs.Record.{record_words}
 use Rattle.yaml_lexeme.specs.Token.{Token, texts}
 use Rattle.yaml_scan.specs.declared.Limits.{Limits}
 use Rattle.theorems.specs.Accepted.{Accepts}
-use Rattle.yaml_stream.proofs.Answers.{here}
+use Rattle.yaml_stream.specs.Answers.{here}
 use Rattle.yaml_stream.specs.Stream.{fresh, least_records, most_waiting}
 use Rattle.yaml_stream.specs.Tale.{built}
 use Rattle.yaml_job.specs.declared.Closing.{Closing}
@@ -18,13 +18,17 @@ use Rattle.yaml_job.specs.declared.ShapePlace.TheVariants.{AtStart}
 use Rattle.yaml_job.specs.Job.{Job, Talk, closed, follow, job, job_call, none_met, talk}
 use Rattle.yaml_job.specs.BlockSheet.{InBlock, OnNameLine}
 use Rattle.yaml_job.proofs.BlockSheet.{block_sheet_done}
-use Rattle.yaml_job.proofs.Calls.{Counts, CountsAll, closed_again, closing_stays, job_counts, talk_of}
-use Rattle.yaml_job.proofs.Done.{JobDone, done_enough, done_means, heard_of, job_closes, seed_values, talk_last, talk_values}
-use Rattle.yaml_job.proofs.Exactly.{Exactly, done_exactly}
-use Rattle.yaml_job.proofs.Handed.{Handed, job_handed}
+use Rattle.yaml_job.specs.Calls.{Counts, CountsAll, closed_again, talk_of}
+use Rattle.yaml_job.proofs.Calls.{closing_stays, job_counts}
+use Rattle.yaml_job.specs.Done.{JobDone, heard_of, seed_values, talk_last, talk_values}
+use Rattle.yaml_job.proofs.Done.{done_enough, done_means, job_closes}
+use Rattle.yaml_job.specs.Exactly.{Exactly}
+use Rattle.yaml_job.proofs.Exactly.{done_exactly}
+use Rattle.yaml_job.specs.Handed.{Handed}
+use Rattle.yaml_job.proofs.Handed.{job_handed}
 use Rattle.yaml_job.proofs.NotDone.{not_done_means, stopped_some}
-use Rattle.yaml_job.proofs.JobReads.{ends_done}
-use Rattle.yaml_job.proofs.Refused.{Stops}
+use Rattle.yaml_job.specs.Reads.{ends_done}
+use Rattle.yaml_job.specs.Refused.{Stops}
 use Rattle.yaml_job.specs.Shape.{Shape}
 use Rattle.driver.specs.Held.{held_words}
 use Rattle.stream.specs.Holds.{fresh_state}

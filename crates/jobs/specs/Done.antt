@@ -4,7 +4,8 @@ use Rattle.std.proofs.Common.{inl, inr, arith, lt-ltb}
 use Rattle.yaml_scan.specs.Scan.{outcome, scanned, standard, stopped}
 use Rattle.yaml_job.specs.declared.Closing.{Closing}
 use Rattle.yaml_job.specs.declared.Closing.TheVariants.{Done, NotDone}
-use Rattle.yaml_job.proofs.Done.{JobDone, done_means}
+use Rattle.yaml_job.specs.Done.{JobDone}
+use Rattle.yaml_job.proofs.Done.{done_means}
 use Rattle.yaml_job.specs.Job.{follow, job}
 use Rattle.jobs.specs.Closes.{Closes, most_calls}
 use Rattle.jobs.specs.Status.{Answers, NoAnswer, ReadAnswers, closes, long, none, nothing, status_of, unread, unwritten, whole}

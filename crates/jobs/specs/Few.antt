@@ -3,7 +3,7 @@ use Rattle.std.specs.Prelude.{◌<◌, ◌≤◌, ℕ, List, ◌≡◌, ltb, len
 use Rattle.std.proofs.Common.{◌∙◌, ap, sym, add-zero, arith, ltb-false, ltb-true}
 use Rattle.yaml_text.specs.Test.{by_test}
 use Rattle.yaml_scan.specs.Scan.{standard}
-use Rattle.yaml_stream.proofs.Calls.{built_few}
+use Rattle.yaml_stream.specs.Calls.{built_few}
 use Rattle.yaml_stream.specs.Tale.{built}
 use Rattle.yaml_job.specs.declared.JobAnswer.TheVariants.{Closed, Lost}
 use Rattle.yaml_job.specs.Job.{Talk, follow, job}

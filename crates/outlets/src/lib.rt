@@ -106,9 +106,6 @@ pub fn fail(rt: &HostRuntime, what: &[u8], why: io::Error) {
 pub fn path(name: &[u8]) -> io::Result<&str> {
     match std::str::from_utf8(name) {
         Ok(text) => Ok(text),
-        Err(_) => Err(io::Error::new(
-            io::ErrorKind::InvalidInput,
-            "the name is not UTF-8",
-        )),
+        Err(_) => Err(io::Error::new(io::ErrorKind::InvalidInput, "the name is not UTF-8")),
     }
 }

@@ -16,7 +16,7 @@ use Rattle.yaml_text.specs.Class.{is_blank, is_bom, is_break, is_breakz, is_flow
 use Rattle.yaml_text.specs.Mark.{here, nothing_at}
 use Rattle.yaml_text.specs.Test.{both_true, by_test, true_false}
 use Rattle.yaml_text.specs.Utf8.{chars, first, is_scalar, is_tail, len_of, three}
-use Rattle.yaml_text.proofs.Utf8Laws.{first_past}
+use Rattle.yaml_text.specs.Utf8Laws.{first_past}
 use Rattle.yaml_text.proofs.ByteLaws.{first_high}
 use Rattle.yaml_lexeme.specs.Plain.{plain_stops, plain_text}
 use Rattle.yaml_lexeme.specs.Turns.{plain_stop}

@@ -15,7 +15,7 @@ use Rattle.yaml_text.specs.Mark.{along}
 use Rattle.yaml_text.specs.Refusal.{got}
 use Rattle.yaml_text.specs.Test.{by_pick}
 use Rattle.yaml_text.specs.Utf8.{by_len, char_if, chars, encode, four, is_scalar, is_tail, len_of, three, two}
-use Rattle.yaml_text.proofs.Utf8Laws.{first_at}
+use Rattle.yaml_text.specs.Utf8Laws.{first_at}
 use Rattle.yaml_lexeme.specs.declared.Style.TheVariants.{Plain}
 use Rattle.yaml_lexeme.specs.Plain.{plain_text, scan_plain_scalar}
 use Rattle.chars.specs.declared.mark.Place.{Place}

@@ -11,7 +11,8 @@ use Rattle.yaml_text.specs.Class.{is_blank, is_break}
 use Rattle.yaml_text.specs.Mark.{break_length}
 use Rattle.yaml_text.specs.Test.{both_true}
 use Rattle.yaml_text.specs.Utf8.{chars}
-use Rattle.yaml_text.proofs.Utf8Laws.{bytes1, first_bytes}
+use Rattle.yaml_text.specs.Utf8Laws.{bytes1}
+use Rattle.yaml_text.proofs.Utf8Laws.{first_bytes}
 use Rattle.yaml_lexeme.specs.Quoted.{folds_to, quoted_run}
 use Rattle.chars.specs.Ascii.{ascii_low, blank_ascii, break_ascii}
 use Rattle.chars.specs.Bytes.{CharAt, ascii_at, eq_at, eq_char}

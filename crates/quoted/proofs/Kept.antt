@@ -12,7 +12,7 @@ use Rattle.yaml_text.specs.Mark.{edge_of, is_marker}
 use Rattle.yaml_text.specs.Pick.{pick}
 use Rattle.yaml_text.specs.Test.{by_test}
 use Rattle.yaml_text.specs.Utf8.{encode}
-use Rattle.yaml_text.proofs.Utf8Laws.{bytes1, encode_append}
+use Rattle.yaml_text.specs.Utf8Laws.{bytes1, encode_append}
 use Rattle.yaml_lexeme.specs.Quoted.{Quote, broken, folds_to, goes, quote_char, quoted_blank, quoted_char, quoted_line, quoted_text, wrong_quote}
 use Rattle.yaml_lexeme.specs.Quoted as definition
 use Rattle.chars.specs.Bytes.{CharAt}

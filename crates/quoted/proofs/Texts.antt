@@ -15,7 +15,7 @@ use Rattle.yaml_text.specs.MarkLaws.{over_along}
 use Rattle.yaml_text.specs.Refusal.{before_read, got}
 use Rattle.yaml_text.specs.Test.{both_true, by_test, true_false}
 use Rattle.yaml_text.specs.Utf8.{chars}
-use Rattle.yaml_text.proofs.Utf8Laws.{bytes1}
+use Rattle.yaml_text.specs.Utf8Laws.{bytes1}
 use Rattle.yaml_lexeme.specs.Escape.{escape}
 use Rattle.yaml_lexeme.specs.Quoted.{Mode, Quote, blanks_of, chars_of, escape_turn, folds_to, joined, quote_char, quoted_blank, quoted_char, quoted_line, quoted_run, quoted_text}
 use Rattle.chars.specs.Bytes.{peek_char}

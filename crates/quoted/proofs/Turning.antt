@@ -15,7 +15,7 @@ use Rattle.yaml_text.specs.Mark as definition
 use Rattle.yaml_text.specs.Refusal.{Read, before_read, got, refused}
 use Rattle.yaml_text.specs.Test.{by_test}
 use Rattle.yaml_text.specs.Utf8.{chars, encode}
-use Rattle.yaml_text.proofs.Utf8Laws.{encode_append}
+use Rattle.yaml_text.specs.Utf8Laws.{encode_append}
 use Rattle.yaml_lexeme.specs.Quoted.{quoted_run}
 use Rattle.rooms.specs.Room.{sets_join}
 use Rattle.chars.specs.declared.mark.Place.{Place}

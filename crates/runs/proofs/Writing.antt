@@ -21,7 +21,7 @@ use Rattle.yaml_text.specs.Refusal.{Read, ◌>>=◌, before_read, got, refused}
 use Rattle.yaml_text.specs.Test.{by_test}
 use Rattle.yaml_text.specs.Utf8.{char_bytes, chars, encode}
 use Rattle.yaml_lexeme.specs.Escape.{Escaped}
-use Rattle.yaml_lexeme.proofs.EscapeFits.{Took, percent_fit}
+use Rattle.yaml_lexeme.specs.EscapeFits.{Took, percent_fit}
 use Rattle.yaml_lexeme.specs.Tag.{percent, uri_at, uri_run}
 use Rattle.yaml_lexeme.specs.Token.{size}
 use Rattle.yaml_lexeme.specs.Turns.{uri_escape, uri_more, uri_passed, uri_stop}

@@ -4,7 +4,7 @@ use Rattle.std.proofs.Common.{append-nil, ◌∙◌, sym, arith, length-append, 
 use Rattle.yaml_text.specs.Class.{none_left}
 use Rattle.yaml_text.specs.Test.{by_pick}
 use Rattle.yaml_text.specs.Utf8.{char_bytes, encode}
-use Rattle.yaml_text.proofs.Utf8Laws.{bytes1}
+use Rattle.yaml_text.specs.Utf8Laws.{bytes1}
 use Rattle.yaml_lexeme.specs.Token.{size}
 
 pub encode_one : (c : ℕ) → encode (c ∷ []) ≡ char_bytes c

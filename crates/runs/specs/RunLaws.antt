@@ -9,7 +9,7 @@ use Rattle.yaml_text.specs.Class.{none_left}
 use Rattle.yaml_text.specs.Mark as definition
 use Rattle.yaml_text.specs.Refusal.{Read, before_read, got, refused}
 use Rattle.yaml_text.specs.Utf8.{encode}
-use Rattle.yaml_text.proofs.Utf8Laws.{encode_append}
+use Rattle.yaml_text.specs.Utf8Laws.{encode_append}
 use Rattle.yaml_lexeme.specs.Token.{size}
 use Rattle.chars.specs.declared.mark.Place.{Place}
 use Rattle.chars.specs.Parts.{Spans}

@@ -6,11 +6,10 @@ ghost use Rattle.io.specs.Counts.{IsPrefixLen};
 use identity::{is_same, of_name};
 use outlets::{Outlet, fail, path};
 use rooms::copy;
-use std::fs;
 use std::fs::{File, Metadata, OpenOptions};
-use std::io;
 use std::os::unix::fs::FileTypeExt;
 use std::random::RandomSource;
+use std::{fs, io};
 
 // Room for a name of up to 4,096 bytes, and what a file's own name has behind it.
 pub const NAME_ROOM: usize = 4104;

@@ -14,7 +14,7 @@ use Rattle.yaml_lexeme.specs.Record.{laid, record_of}
 use Rattle.yaml_scan.specs.declared.Candidate.TheVariants.{Absent}
 use Rattle.yaml_scan.specs.declared.Limits.{Limits}
 use Rattle.yaml_scan.specs.State.{State, put, puts}
-use Rattle.yaml_scan.proofs.SlotLaws.{total}
+use Rattle.yaml_scan.specs.SlotLaws.{total}
 use Rattle.yaml_scan.specs.Scan.{begin, run, scan}
 use Rattle.yaml_scan.specs.Scan as definition
 use Rattle.chars.specs.Places.{stands_start}

@@ -10,7 +10,8 @@ use Rattle.yaml_scan.specs.declared.Limits.{Limits}
 use Rattle.yaml_scan.specs.Scan.{accepted, outcome, stopped}
 use Rattle.yaml_scan.specs.Scan as definition
 use Rattle.theorems.specs.Accepted.{Accepts}
-use Rattle.theorems.proofs.Answered.{Gives, Refuses, Ruled, accepted_gives, enough_room, refused_says}
+use Rattle.theorems.specs.Answered.{Gives, Refuses, Ruled, enough_room}
+use Rattle.theorems.proofs.Answered.{accepted_gives, refused_says}
 use Rattle.theorems.proofs.Room as room
 use Rattle.scanner.specs.declared.Answer.{Answer}
 use Rattle.scanner.specs.declared.Answer.TheVariants.{Accepted, Refused}

@@ -15,13 +15,5 @@ other_breaks (pos zero) n h = absurd (h refl)
 other_breaks (pos (suc k)) n h = refl
 other_breaks (negsuc k) n h = refl
 
-ending_fits : (got : ℤ) (n room : ℕ) → n < room → Within room (ending got n)
-ending_fits (pos zero) n room h = h
-ending_fits (pos (suc k)) n room h = tt
-ending_fits (negsuc k) n room h = tt
-
-pub ended_within : (s : Sheet) (got : ℤ) (n room : ℕ) → n < room → s ≡ ending got n → Within room s
-ended_within s got n room h e = rw e (ending_fits got n room h)
-
 pub whole_fits : (s : Sheet) (n room : ℕ) → s ≡ Whole n → Within room s → n ≤ room
 whole_fits s n room e h = let g : n < room = rw e at h in omega arith

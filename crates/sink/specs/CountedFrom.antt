@@ -5,7 +5,7 @@ use Rattle.std.proofs.Common.{◌∙◌, ap, sym, arith}
 use Rattle.yaml_text.specs.declared.Mark.{Mark}
 use Rattle.yaml_lexeme.specs.Token.{token_bytes}
 use Rattle.yaml_scan.specs.State.{Event, block_ends, put, put_before, puts}
-use Rattle.yaml_scan.proofs.SlotLaws.{total}
+use Rattle.yaml_scan.specs.SlotLaws.{total}
 use Rattle.yaml_stream.specs.Stream.{counted_from}
 use Rattle.yaml_stream.specs.Waits.{counted_puts}
 use Rattle.events.specs.declared.Event as code

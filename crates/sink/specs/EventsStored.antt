@@ -7,7 +7,7 @@ use Rattle.yaml_lexeme.specs.Record.{record_of, record_words}
 use Rattle.yaml_scan.specs.State.{Event, put, put_before, puts}
 use Rattle.yaml_scan.specs.Candidates.{EmptyAt, Free, GivenToken, Placed, fresh, note_at}
 use Rattle.yaml_scan.specs.Slots.{Slot, note, slot, slots}
-use Rattle.yaml_scan.proofs.SlotLaws.{SlotsHold, holds_more, holds_noted, note_length, slots_length}
+use Rattle.yaml_scan.specs.SlotLaws.{SlotsHold, holds_more, holds_noted, note_length, slots_length}
 use Rattle.events.specs.Event as event
 use Rattle.events.specs.Event.{LaidEvent, event_texts, laid_events}
 use Rattle.events.specs.Laid.{laid_append}

@@ -16,7 +16,7 @@ use Rattle.yaml_scan.specs.Bracket.{implicit_open}
 use Rattle.yaml_scan.specs.Scan.{outcome, scanned, unrolled}
 use Rattle.yaml_scan.specs.Candidates.{OnlyPuts, only_append, only_ends, only_if, only_one}
 use Rattle.yaml_scan.specs.Moves.{Begins, Enters, Move, Moves, begins, block_start, closes, goes_in, leaves, opens, parts, tells, uses}
-use Rattle.yaml_scan.proofs.Steps.{Gapped, Takes}
+use Rattle.yaml_scan.specs.Steps.{Gapped, Takes}
 use Rattle.theorems.specs.Induction.{outcome_good}
 use Rattle.sink.specs.Settle.{note_kinds, opener}
 use Rattle.sink.specs.SlotWords.{note_number, note_of}

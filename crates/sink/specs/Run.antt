@@ -8,7 +8,7 @@ use Rattle.yaml_lexeme.specs.Record.{record_words, records}
 use Rattle.yaml_scan.specs.declared.Limits.{Limits}
 use Rattle.yaml_scan.specs.State.{Event, puts}
 use Rattle.yaml_scan.specs.Slots.{slots, tokens_of}
-use Rattle.yaml_scan.proofs.SlotLaws.{slots_length}
+use Rattle.yaml_scan.specs.SlotLaws.{slots_length}
 use Rattle.yaml_scan.specs.Scan.{outcome, scanned}
 use Rattle.yaml_scan.proofs.Budget.{outcome_placed}
 use Rattle.yaml_scan.specs.Candidates.{Placed}

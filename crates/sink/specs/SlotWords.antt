@@ -10,7 +10,7 @@ use Rattle.yaml_lexeme.specs.Token.{Token, token_bytes}
 use Rattle.yaml_lexeme.specs.RecordLaws.{record_length}
 use Rattle.yaml_lexeme.specs.Record.{laid, laid_token, number_of, record_of, record_words}
 use Rattle.yaml_scan.specs.Slots.{Slot, note, slot}
-use Rattle.yaml_scan.proofs.SlotLaws.{note_length}
+use Rattle.yaml_scan.specs.SlotLaws.{note_length}
 use Rattle.records.specs.Kinds.{note_base}
 use Rattle.records.specs.Note.{no_note, noted_word, with_note, with_note_length}
 use Rattle.sink.specs.Store.{put_note, put_note_in, put_record, put_record_in}

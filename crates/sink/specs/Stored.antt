@@ -8,7 +8,7 @@ use Rattle.yaml_lexeme.specs.Record.{laid_token}
 use Rattle.yaml_lexeme.specs.Token as tokens
 use Rattle.yaml_scan.specs.State as definition
 use Rattle.yaml_scan.specs.State.{block_ends, puts}
-use Rattle.yaml_scan.proofs.SlotLaws.{total}
+use Rattle.yaml_scan.specs.SlotLaws.{total}
 use Rattle.yaml_stream.specs.Stream.{counted_from}
 use Rattle.reading.specs.Reading.{text_size}
 use Rattle.rooms.specs.Room.{sets_join}

@@ -9,8 +9,8 @@ use Rattle.yaml_text.specs.declared.Mark.{Mark}
 use Rattle.yaml_text.specs.declared.Refusal.{Refusal}
 use Rattle.yaml_scan.specs.declared.Limits.{Limits}
 use Rattle.yaml_scan.specs.Slots.{flat}
-use Rattle.yaml_stream.proofs.Ahead.{there}
-use Rattle.yaml_stream.proofs.Answers.{refused_again}
+use Rattle.yaml_stream.specs.Ahead.{there}
+use Rattle.yaml_stream.specs.Answers.{refused_again}
 use Rattle.yaml_stream.specs.Stream.{Called, Stream, broken, call, called, refusal}
 use Rattle.stacks.proofs.Frames.{get_d_sets, getD_sets_other}
 use Rattle.sink.specs.SlotWords.{slot_texts, slot_words}

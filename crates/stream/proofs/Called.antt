@@ -14,10 +14,10 @@ use Rattle.yaml_lexeme.specs.Record.{record_words}
 use Rattle.yaml_scan.specs.declared.Limits.{Limits}
 use Rattle.yaml_scan.specs.State as definition
 use Rattle.yaml_scan.specs.Slots.{Slot, flat}
-use Rattle.yaml_stream.proofs.Ahead.{CallsGive, there}
-use Rattle.yaml_stream.proofs.Answers.{ended_again}
+use Rattle.yaml_stream.specs.Ahead.{CallsGive, there}
+use Rattle.yaml_stream.specs.Answers.{ended_again}
 use Rattle.yaml_stream.specs.Stream.{Called, Stream, broken, call, called, closing, fresh, least_records, refusal, scanning}
-use Rattle.yaml_stream.proofs.Waiting.{StreamReaches}
+use Rattle.yaml_stream.specs.Waiting.{StreamReaches}
 use Rattle.driver.specs.declared.Outcome.{Outcome}
 use Rattle.driver.specs.Drives.{Drives}
 use Rattle.driver.specs.Held.{Modest, held_words, phase_at, word}

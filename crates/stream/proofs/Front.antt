@@ -14,7 +14,7 @@ use Rattle.yaml_lexeme.specs.Record.{record_words}
 use Rattle.yaml_scan.specs.declared.Limits.{Limits}
 use Rattle.yaml_scan.specs.State as definition
 use Rattle.yaml_scan.specs.Slots.{Slot}
-use Rattle.yaml_stream.proofs.Between.{Lone}
+use Rattle.yaml_stream.specs.Between.{Lone}
 use Rattle.yaml_stream.specs.Stream.{least_records}
 use Rattle.stacks.specs.Most.{at_most, at_most_fits, at_most_stays}
 use Rattle.sink.specs.SlotWords.{slot_words, slot_words_length}

@@ -13,7 +13,7 @@ use Rattle.yaml_scan.specs.declared.Limits.{Limits}
 use Rattle.yaml_scan.specs.Scan.{standard}
 use Rattle.yaml_scan.specs.State as definition
 use Rattle.yaml_scan.specs.Slots.{Slot, flat}
-use Rattle.yaml_stream.proofs.Ahead.{CallsGive, gives}
+use Rattle.yaml_stream.specs.Ahead.{CallsGive, gives}
 use Rattle.yaml_stream.specs.Stream.{Called, Stream, call, called, least_records, token}
 use Rattle.driver.specs.Held.{Modest, base_at, counts_held, held_words, level_at, mark_at, number_at, phase_at, seen_held, slot_at, until_at, word}
 use Rattle.stream.specs.declared.Next.{Next}

@@ -9,18 +9,20 @@ use lib.ListN.{drop, get_or, length, length-append, length-set, length-take, set
 use lib.Seq.{get_or-drop, get_or-set_other, get_or-set_same, length-take-le}
 use borrow.Author.Tests.{lt-ltb}
 use Rattle.yaml_text.specs.declared.Refusal.{Refusal}
-use Rattle.yaml_text.proofs.PlaceLaws.{left}
+use Rattle.yaml_text.specs.PlaceLaws.{left}
 use Rattle.yaml_text.specs.Test.{true_false}
 use Rattle.yaml_lexeme.specs.Record.{record_words}
 use Rattle.yaml_scan.specs.declared.Limits.{Limits}
 use Rattle.yaml_scan.specs.State as definition
 use Rattle.yaml_scan.specs.State.{Event, mark_of}
 use Rattle.yaml_scan.specs.Slots.{Slot}
-use Rattle.yaml_stream.proofs.Between.{to_scan}
-use Rattle.yaml_stream.proofs.Noted.{Noted, reached_noted}
+use Rattle.yaml_stream.specs.Between.{to_scan}
+use Rattle.yaml_stream.specs.Noted.{Noted}
+use Rattle.yaml_stream.proofs.Noted.{reached_noted}
 use Rattle.yaml_stream.specs.Notes.{AllNoted}
 use Rattle.yaml_stream.specs.Stream.{Stream, brings, fresh, least_records, scanning, waits}
-use Rattle.yaml_stream.proofs.Waiting.{Held, StreamReaches, fresh_keeps, reaches_keeps}
+use Rattle.yaml_stream.specs.Waiting.{Held, StreamReaches, fresh_keeps}
+use Rattle.yaml_stream.proofs.Waiting.{reaches_keeps}
 use Rattle.yaml_stream.specs.Waits.{waits_length}
 use Rattle.stacks.specs.Most.{at_most, at_most_stays}
 use Rattle.stacks.specs.Stack.{stack_words}

@@ -23,12 +23,13 @@ use Rattle.yaml_scan.specs.declared.Candidate.TheVariants.{Absent}
 use Rattle.yaml_scan.specs.declared.Limits.{Limits}
 use Rattle.yaml_scan.specs.Scan.{begin}
 use Rattle.yaml_scan.specs.Slots.{flat, slot}
-use Rattle.yaml_stream.proofs.Ahead.{there}
-use Rattle.yaml_stream.proofs.Answers.{refused_again}
-use Rattle.yaml_stream.proofs.Between.{begin_between, between_given}
-use Rattle.yaml_stream.proofs.Seeks.{call_here}
+use Rattle.yaml_stream.specs.Ahead.{there}
+use Rattle.yaml_stream.specs.Answers.{refused_again}
+use Rattle.yaml_stream.specs.Between.{between_given}
+use Rattle.yaml_stream.proofs.Between.{begin_between}
+use Rattle.yaml_stream.specs.Seeks.{call_here}
 use Rattle.yaml_stream.specs.Stream.{Called, Stream, begun, broken, call, called, first_of, fresh, give, least_records, possible, ready, scanning, token, too_few_words}
-use Rattle.yaml_stream.proofs.Waiting.{StreamReaches, here, then_give}
+use Rattle.yaml_stream.specs.Waiting.{StreamReaches, here, then_give}
 use Rattle.chars.specs.Places.{stands_start}
 use Rattle.rooms.specs.Room.{cleared}
 use Rattle.stacks.specs.Frame.{frame_keys, frame_levels, key_at, key_of}

@@ -9,10 +9,10 @@ use Rattle.yaml_scan.specs.Slots.{Slot, flat}
 use Rattle.yaml_scan.specs.State as definition
 use Rattle.yaml_stream.specs.Stream.{Stream, broken, call, called, closing, ended, fresh, least_records, ready, refusal, scanning, spent, token}
 use Rattle.yaml_stream.specs.Stream as stream
-use Rattle.yaml_stream.proofs.Ahead.{CallsGive}
-use Rattle.yaml_stream.proofs.Between.{BetweenCalls}
+use Rattle.yaml_stream.specs.Ahead.{CallsGive}
+use Rattle.yaml_stream.specs.Between.{BetweenCalls}
 use Rattle.yaml_stream.specs.Notes.{AllNoted}
-use Rattle.yaml_stream.proofs.Waiting.{StreamReaches}
+use Rattle.yaml_stream.specs.Waiting.{StreamReaches}
 use Rattle.stacks.specs.Most.{at_most}
 use Rattle.sink.specs.SlotWords.{laid_record, slot_texts, slot_words, used_by}
 use Rattle.stream_laws.specs.Sought.{level_from}

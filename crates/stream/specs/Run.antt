@@ -12,9 +12,11 @@ use Rattle.yaml_scan.specs.declared.Limits.{Limits}
 use Rattle.yaml_scan.specs.State.{Event}
 use Rattle.yaml_scan.specs.Scan.{outcome, scanned, stopped}
 use Rattle.yaml_scan.specs.Slots.{Slot, tokens_of}
-use Rattle.yaml_stream.proofs.Answers.{Comes, comes_owes, ended_again, ended_stays, here, refused_again, refused_stays, then_call}
+use Rattle.yaml_stream.specs.Answers.{Comes, ended_again, ended_stays, here, refused_again, refused_stays, then_call}
+use Rattle.yaml_stream.proofs.Answers.{comes_owes}
 use Rattle.yaml_stream.proofs.Numbers.{at_least_one}
-use Rattle.yaml_stream.proofs.Given.{Answered, Own, call_answers}
+use Rattle.yaml_stream.specs.Given.{Answered, Own}
+use Rattle.yaml_stream.proofs.Given.{call_answers}
 use Rattle.yaml_stream.specs.Tale.{Close, at_rule, built, outcome_of, outcome_told, told as tale_told}
 use Rattle.yaml_stream.specs.Sizes.{texts_append}
 use Rattle.yaml_stream.specs.Stream.{Called, Stream, broken, call, called, closing, ended, fresh, refusal, spent, token}

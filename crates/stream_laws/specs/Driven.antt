@@ -12,8 +12,8 @@ use Rattle.yaml_scan.specs.Scan.{step}
 use Rattle.events.specs.declared.Counts.{Counts}
 use Rattle.events.specs.Event.{event_texts}
 use Rattle.yaml_stream.specs.Stream.{most_waiting, too_many_wait}
-use Rattle.yaml_stream.proofs.Lowest.{names}
-use Rattle.yaml_stream.proofs.Levels.{level_key}
+use Rattle.yaml_stream.specs.Lowest.{names}
+use Rattle.yaml_stream.specs.Levels.{level_key}
 use Rattle.stream_laws.specs.declared.Pending.{Pending}
 
 -- how many tokens events put in before others

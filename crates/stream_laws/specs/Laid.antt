@@ -11,7 +11,7 @@ use Rattle.yaml_lexeme.specs.Record.{record_words}
 use Rattle.yaml_scan.specs.State.{Event}
 use Rattle.yaml_scan.specs.Candidates.{GivenToken}
 use Rattle.yaml_scan.specs.Slots.{Slot}
-use Rattle.yaml_scan.proofs.SlotLaws.{SlotsHold}
+use Rattle.yaml_scan.specs.SlotLaws.{SlotsHold}
 use Rattle.yaml_stream.specs.Stream.{brings, counted_from, least_records, waits}
 use Rattle.rooms.specs.Room.{sets_join, take_sets}
 use Rattle.events.specs.declared.Counts.{Counts}

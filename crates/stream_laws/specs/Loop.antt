@@ -7,25 +7,27 @@ use Rattle.std.proofs.lemmas.List.{map-append}
 use Rattle.std.proofs.Math.Path.{refl}
 use Rattle.yaml_text.specs.Mark.{origin}
 use Rattle.yaml_text.specs.Pick.{pick}
-use Rattle.yaml_text.proofs.PlaceLaws.{left}
+use Rattle.yaml_text.specs.PlaceLaws.{left}
 use Rattle.yaml_text.specs.Refusal.{Read, got, refused}
 use Rattle.yaml_text.specs.Test.{by_test, true_false}
 use Rattle.yaml_scan.specs.State.{Event, News, State, ends_with, goes_on, mark_of}
 use Rattle.yaml_scan.specs.Scan.{step}
 use Rattle.yaml_scan.specs.Slots.{Slot, flat}
-use Rattle.yaml_scan.proofs.SlotLaws.{flat_append}
+use Rattle.yaml_scan.specs.SlotLaws.{flat_append}
 use Rattle.yaml_scan.specs.Candidates.{GivenToken, given, placed_append}
 use Rattle.yaml_stream.specs.Stream.{Stream, behind, brings, broken, call, counted_from, most_waiting, possible, scanning, stepped, too_many_wait, waits}
 use Rattle.yaml_stream.specs.Stream as stream
 use Rattle.yaml_stream.specs.Sizes.{brings_append}
 use Rattle.yaml_stream.specs.Waits.{waits_append}
-use Rattle.yaml_stream.proofs.Waiting.{then_step}
+use Rattle.yaml_stream.specs.Waiting.{then_step}
 use Rattle.yaml_stream.proofs.Levels.{on_at}
 use Rattle.yaml_stream.specs.Notes.{flat_befores}
-use Rattle.yaml_stream.proofs.Noted.{Noted}
+use Rattle.yaml_stream.specs.Noted.{Noted}
 use Rattle.yaml_stream.proofs.Seeks.{call_on}
-use Rattle.yaml_stream.proofs.Between.{BetweenCalls, Pauses, between_drop, step_pauses, still_first}
-use Rattle.yaml_stream.proofs.Ahead.{CallsGive, ahead_from, ahead_reaches, ahead_then, free_ahead, there}
+use Rattle.yaml_stream.specs.Between.{BetweenCalls, Pauses, between_drop, still_first}
+use Rattle.yaml_stream.proofs.Between.{step_pauses}
+use Rattle.yaml_stream.specs.Ahead.{CallsGive, ahead_from, ahead_reaches, ahead_then, there}
+use Rattle.yaml_stream.proofs.Ahead.{free_ahead}
 use Rattle.events.specs.declared.Counts.{Counts}
 use Rattle.events.specs.Event.{event_texts}
 use Rattle.sink.specs.EventsStored.{notes_append}

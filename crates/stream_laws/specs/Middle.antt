@@ -6,30 +6,36 @@ use Rattle.std.proofs.Common.{inl, inr, ◌∙◌, sym, arith, take_at, le-ltb, 
 use Rattle.std.proofs.Math.Path.{ap, refl}
 use Rattle.std.proofs.Math.ListN.{length, length-append}
 use Rattle.yaml_text.specs.declared.Mark.{Mark}
-use Rattle.yaml_text.proofs.PlaceLaws.{left}
+use Rattle.yaml_text.specs.PlaceLaws.{left}
 use Rattle.yaml_text.specs.Refusal.{got}
 use Rattle.yaml_text.specs.Test.{by_test}
 use Rattle.yaml_text.specs.All.{all_got}
 use Rattle.yaml_scan.specs.State.{Event, State, ends_with, goes_on, put, put_before, puts}
 use Rattle.yaml_scan.specs.Scan.{step}
 use Rattle.yaml_scan.specs.Slots.{Slot, flat, slots}
-use Rattle.yaml_scan.proofs.SlotLaws.{SlotsHold, flat_append, slots_total, total}
+use Rattle.yaml_scan.specs.SlotLaws.{SlotsHold, flat_append, total}
+use Rattle.yaml_scan.proofs.SlotLaws.{slots_total}
 use Rattle.yaml_scan.specs.Candidates.{GivenToken, Placed, Sound, given}
-use Rattle.yaml_scan.proofs.Runs.{GoesTo, step_news}
+use Rattle.yaml_scan.specs.Runs.{GoesTo}
+use Rattle.yaml_scan.proofs.Runs.{step_news}
 use Rattle.yaml_stream.specs.Stream.{Stream, broken, call, closing, counted_from, scanning, waits}
 use Rattle.yaml_stream.specs.Stream as stream
 use Rattle.yaml_stream.specs.Silent.{Silent, step_silent}
 use Rattle.yaml_stream.specs.Kept.{StepKeeps, NotesFrom, notes_less, step_keeps}
 use Rattle.yaml_stream.specs.Waits.{waits_behind, waits_length}
-use Rattle.yaml_stream.proofs.Answers.{refused_again}
-use Rattle.yaml_stream.proofs.Alone.{LastOf, step_last}
-use Rattle.yaml_stream.proofs.Waiting.{Held, few_before, fresh_keeps, reaches_keeps}
-use Rattle.yaml_stream.proofs.Levels.{OnLevel, fall_not, on_none, step_on}
+use Rattle.yaml_stream.specs.Answers.{refused_again}
+use Rattle.yaml_stream.specs.Alone.{LastOf}
+use Rattle.yaml_stream.proofs.Alone.{step_last}
+use Rattle.yaml_stream.specs.Waiting.{Held, fresh_keeps}
+use Rattle.yaml_stream.proofs.Waiting.{few_before, reaches_keeps}
+use Rattle.yaml_stream.specs.Levels.{OnLevel, fall_not, step_on}
+use Rattle.yaml_stream.proofs.Levels.{on_none}
 use Rattle.yaml_stream.specs.Notes.{AllNoted, counted_given, counted_notes, counted_placed, counted_total, flat_befores, holds_after, noted_after, step_notes}
 use Rattle.yaml_stream.specs.Notes as known
-use Rattle.yaml_stream.proofs.Noted.{sound_count}
-use Rattle.yaml_stream.proofs.Between.{Lone, to_scan}
-use Rattle.yaml_stream.proofs.Ahead.{CallsGive, ahead_from, ahead_then, closing_ahead}
+use Rattle.yaml_stream.specs.Noted.{sound_count}
+use Rattle.yaml_stream.specs.Between.{Lone, to_scan}
+use Rattle.yaml_stream.specs.Ahead.{CallsGive, ahead_from, ahead_then}
+use Rattle.yaml_stream.proofs.Ahead.{closing_ahead}
 use Rattle.yaml_stream.proofs.Tight.{waiting_at_end, waiting_behind}
 use Rattle.events.specs.declared.Counts.{Counts}
 use Rattle.sink.specs.SlotWords.{slot_texts}

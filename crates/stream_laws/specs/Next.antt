@@ -7,9 +7,10 @@ use Rattle.yaml_scan.specs.State.{State}
 use Rattle.yaml_scan.specs.Slots.{Slot}
 use Rattle.yaml_stream.specs.Stream.{possible, scanning}
 use Rattle.yaml_stream.specs.Stream as stream
-use Rattle.yaml_stream.proofs.Lowest.{names}
-use Rattle.yaml_stream.proofs.Levels.{level_key, on_at}
-use Rattle.yaml_stream.proofs.Between.{BetweenCalls, still_first}
+use Rattle.yaml_stream.specs.Lowest.{names}
+use Rattle.yaml_stream.specs.Levels.{level_key}
+use Rattle.yaml_stream.proofs.Levels.{on_at}
+use Rattle.yaml_stream.specs.Between.{BetweenCalls, still_first}
 use Rattle.events.specs.declared.Counts.{Counts}
 use Rattle.stream_laws.specs.declared.Pending.{Pending}
 use Rattle.stream_laws.specs.Driven.{then_pending}

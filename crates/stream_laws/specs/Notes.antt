@@ -6,7 +6,7 @@ use Rattle.yaml_lexeme.specs.Record.{laid, number_of, record_words}
 use Rattle.yaml_scan.specs.State.{Event, put, put_before}
 use Rattle.yaml_scan.specs.Candidates.{GivenToken, Placed}
 use Rattle.yaml_scan.specs.Slots.{Slot}
-use Rattle.yaml_scan.proofs.SlotLaws.{SlotsHold}
+use Rattle.yaml_scan.specs.SlotLaws.{SlotsHold}
 use Rattle.yaml_stream.specs.Stream.{counted_from, waits}
 use Rattle.yaml_stream.specs.Notes.{Note, block, key, no_note, pair}
 use Rattle.yaml_stream.specs.Notes as stream

@@ -10,10 +10,10 @@ use Rattle.yaml_scan.specs.Slots.{Slot, flat}
 use Rattle.yaml_scan.specs.Candidates.{GivenToken, Placed}
 use Rattle.yaml_stream.specs.Stream.{Stream, brings, broken, call, called, closing, counted_from, fresh, refusal, scanning, waits}
 use Rattle.yaml_stream.specs.Stream as stream
-use Rattle.yaml_stream.proofs.Waiting.{StreamReaches}
+use Rattle.yaml_stream.specs.Waiting.{StreamReaches}
 use Rattle.yaml_stream.specs.Notes.{AllNoted}
-use Rattle.yaml_stream.proofs.Between.{BetweenCalls}
-use Rattle.yaml_stream.proofs.Ahead.{CallsGive}
+use Rattle.yaml_stream.specs.Between.{BetweenCalls}
+use Rattle.yaml_stream.specs.Ahead.{CallsGive}
 use Rattle.events.specs.Event.{event_texts}
 use Rattle.sink.specs.EventsStored.{Notes, stored_texts}
 use Rattle.sink.specs.CountedFrom.{counted_texts}

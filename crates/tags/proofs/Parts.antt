@@ -18,7 +18,7 @@ use Rattle.yaml_text.specs.Mark as definition
 use Rattle.yaml_text.specs.Pick.{pick}
 use Rattle.yaml_text.specs.Refusal.{◌>>=◌, got, need, refused}
 use Rattle.yaml_text.specs.Utf8.{char_bytes, chars, encode}
-use Rattle.yaml_text.proofs.Utf8Laws.{encode_append}
+use Rattle.yaml_text.specs.Utf8Laws.{encode_append}
 use Rattle.yaml_lexeme.specs.Tag.{handled, primary, uri_at, verbatim}
 use Rattle.yaml_lexeme.specs.Token.{size}
 use Rattle.chars.specs.declared.mark.Place.{Place}

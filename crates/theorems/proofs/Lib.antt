@@ -1,8 +1,8 @@
-pub mod Answered
+pub mod Room
 pub mod NestedLaws
-pub mod Nesting
+pub mod Opened
 pub mod NestingMoves
 pub mod NestingSteps
+pub mod Nesting
 pub mod Numbers
-pub mod Opened
-pub mod Room
+pub mod Answered

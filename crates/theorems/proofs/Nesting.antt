@@ -1,17 +1,12 @@
--- Demand 3, 4. For every text that the rules accept, whatever the room lent:
--- in every prefix of the list each end closes the latest start still open, of its own kind (block, flow sequence, flow mapping); at StreamEnd none is open.
-use Rattle.std.specs.Prelude.{ℕ, List, [], ◌++◌, ◌∷◌, map, ◌≡◌, refl}
+-- Theorems about specs/Nesting, and what rests on them.
+use Rattle.std.specs.Prelude.{ℕ, List, [], ◌++◌, ◌∷◌, ◌≡◌, refl}
 use Rattle.yaml_text.specs.declared.Mark.{Mark}
-use Rattle.yaml_text.specs.Char.{'-', ':', '[', ']', space}
 use Rattle.yaml_lexeme.specs.Token.{StreamEnd, Token, empty_token}
-use Rattle.yaml_lexeme.specs.Role.{Open, Role, block, ends, ends_all, flow_mapping, flow_sequence, neither, role, starts}
+use Rattle.yaml_lexeme.specs.Role.{Open, ends_all, role}
 use Rattle.yaml_scan.specs.declared.Limits.{Limits}
-use Rattle.yaml_scan.specs.Scan.{Outcome, outcome, scanned, spent, standard, stopped}
-use Rattle.yaml_scan.specs.Open.{all_open}
-use Rattle.yaml_scan.specs.Slots.{tokens_of}
 use Rattle.theorems.specs.Accepted.{Accepts}
 use Rattle.theorems.specs.Nested.{Nested, Turns, done, ended, then}
-use Rattle.theorems.proofs.NestedLaws.{nested_append, nested_split}
+use Rattle.theorems.specs.NestedLaws.{nested_append, nested_split}
 use Rattle.theorems.proofs.NestingSteps.{scan_nested}
 
 -- StreamEnd comes last, and there none is open
@@ -37,16 +32,3 @@ at_stream_end limits bytes ts us vs t a e k = let s = nested_split us (rw e at (
 
     by_end : {os : List Open} → Nested [] us os → Nested os (t ∷ vs) [] → Nested [] us []
     by_end h (then f _) = rw (none_open (rw k at f)) at h
-
--- the starts and ends of a text's list
-abbrev roles : Outcome → List Role
-roles (scanned es) = map (λ (t : Token). role t.kind) (tokens_of es)
-roles (stopped n m) = []
-roles spent = []
-
--- `- [a: b]: c`: the block mapping and the pair start before tokens that came earlier, and the entry that K6 stacks ends no block
-pub shown : roles (outcome standard ('-' ∷ space ∷ '[' ∷ 97 ∷ ':' ∷ space ∷ 98 ∷ ']' ∷ ':' ∷ space ∷ 99 ∷ []))
-    ≡ neither ∷ starts block ∷ neither ∷ starts block ∷ neither ∷ starts flow_sequence ∷ starts flow_mapping ∷ neither ∷ neither ∷ neither ∷ neither
-    ∷ ends flow_mapping ∷ ends flow_sequence ∷ neither ∷ neither ∷ ends block ∷ ends block ∷ ends_all ∷ []
-unfolding all_open role
-shown = refl

@@ -1,34 +1,33 @@
--- Each move keeps what is open nested (for Nesting).
-use Rattle.std.specs.Prelude.{◌+◌, ◌≤◌, suc, zero, ℕ, Bool, ◌||◌, false, not, true, ◌≡◌, refl, drop, length, replicate}
+-- Theorems about specs/NestingMoves, and what rests on them.
+use Rattle.std.specs.Prelude.{◌+◌, ◌≤◌, suc, ℕ, Bool, ◌||◌, false, not, true, ◌≡◌, refl, drop, length, replicate}
 use mathlib.Core.List.{List, [], ◌++◌, ◌∷◌, append_assoc}
 use Rattle.std.proofs.Common.{sym, arith}
 use Rattle.std.proofs.lemmas.Bool.{not-true}
-use Rattle.std.proofs.lemmas.List.{replicate-append-replicate}
 use Rattle.yaml_text.specs.declared.Mark.{Mark}
 use Rattle.yaml_text.specs.Pick.{pick}
-use Rattle.yaml_text.specs.Mark.{Place, edge_of}
+use Rattle.yaml_text.specs.Mark.{Place}
 use Rattle.yaml_text.specs.Test.{by_pick, on_pick, true_false}
-use Rattle.yaml_text.proofs.PlaceLaws.{FurtherOn}
+use Rattle.yaml_text.specs.PlaceLaws.{FurtherOn}
 use Rattle.yaml_lexeme.specs.Token.{FlowMappingEnd, FlowMappingStart, Kind, Token}
 use Rattle.yaml_lexeme.specs.Role.{Open, block, ends, flow_mapping, neither, role, starts}
 use Rattle.yaml_lexeme.specs.Block.{one_if}
 use Rattle.yaml_scan.specs.declared.Candidate.{Candidate}
 use Rattle.yaml_scan.specs.declared.Candidate.TheVariants.{Absent, Possible}
 use Rattle.yaml_scan.specs.declared.Level.{Level}
-use Rattle.yaml_scan.specs.Indent.{Indents, Rolled, unroll}
-use Rattle.yaml_scan.specs.IndentLaws.{Rises, Rolls, Same, blocks_of, innermost, same_refl, unroll_blocks}
+use Rattle.yaml_scan.specs.Indent.{Indents, Rolled}
+use Rattle.yaml_scan.specs.IndentLaws.{Rolls, Same, blocks_of, same_refl}
 use Rattle.yaml_scan.specs.Keys.{set_key, top_key}
-use Rattle.yaml_scan.specs.State.{Event, State, block_ends, empty_if, in_flow, mark_of, on_level, put, put_before, puts, save_key, unroll_to}
+use Rattle.yaml_scan.specs.State.{Event, State, empty_if, in_flow, mark_of, on_level, put, put_before, puts, save_key, unroll_to}
 use Rattle.yaml_scan.specs.Bracket.{closes_level, implicit_open, new_entry}
 use Rattle.yaml_scan.specs.Document.{all_ends}
 use Rattle.yaml_scan.specs.Slots.{Slot, note, slots}
-use Rattle.yaml_scan.proofs.SlotLaws.{slots_length}
+use Rattle.yaml_scan.specs.SlotLaws.{slots_length}
 use Rattle.yaml_scan.specs.Moves.{Begins, Enters, Move, Tidy, Within, begins, block_start, bracket, closes, goes_in, leaves, opens, parts, tells, uses}
 use Rattle.theorems.specs.Nested.{Nested, closed, done, kept, opened, then}
-use Rattle.theorems.proofs.NestedLaws.{Leads, and_put, says_append, says_one, silent}
-use Rattle.theorems.proofs.Opened.{Built, MovesOn, Stays, Turned, blocks, built_saved, built_says, built_top, built_used, built_without, held, inside, leads_says, outside, turned_over}
-
--- what the events of a move turn
+use Rattle.theorems.specs.NestedLaws.{Leads, and_put, says_append, says_one, silent}
+use Rattle.theorems.specs.Opened.{Built, MovesOn, Turned, blocks, built_saved, built_says, built_top, built_without, held, inside, outside}
+use Rattle.theorems.proofs.Opened.{built_used}
+use Rattle.theorems.specs.NestingMoves.{ends_turn, goes_to, Stands, AtEdge, zero_level, at_zero, ends_lead}
 
 gives : {t : Token} → role t.kind ≡ neither → (u : List Open) → Turned u (put t ∷ []) u
 gives e u os = says_one e kept
@@ -37,38 +36,11 @@ begun_if : (b : Bool) (k : Kind) (m : Mark) (o : Open) → role k ≡ starts o �
 begun_if true k m o e os = says_one e opened
 begun_if false k m o e os = silent
 
--- the ends of blocks
-pub ends_turn : (n : ℕ) (m : Mark) → Turned (replicate n block) (block_ends n m) []
-unfolding role
-ends_turn zero m os = silent
-ends_turn (suc n) m os = and_put closed (ends_turn n m os)
-
 -- the end of a pair
 pair_end_turns : (b : Bool) (m : Mark) (o : Open) → Turned (pick b (flow_mapping ∷ []) [] ++ (o ∷ [])) (empty_if b FlowMappingEnd m) (o ∷ [])
 unfolding role
 pair_end_turns true m o os = and_put closed silent
 pair_end_turns false m o os = silent
-
--- where the state goes on
-
-stays_on : {i i' : Indents} {p q : Place} → Same i i' → FurtherOn p q → (c : Candidate) → Stays i p.mark c → Stays i' q.mark c
-stays_on s f Absent h = tt
-stays_on s f (Possible required n k) h =
-    let l = f.line_on in
-    (omega (arith, s.at), omega arith, λ e. omega (arith, h.2 (omega arith), f.col_on (omega arith)))
-
-pub goes_to : {i i' : Indents} {p q : Place} → Same i i' → FurtherOn p q → MovesOn i p.mark i' q.mark
-goes_to s f = record { same_blocks = s.blocks; stays = stays_on s f }
-
--- the state s, with its slots
-pub record Stands (s : State) (xs : List Slot) : Type 0 where
-  pub counted : s.count ≡ length xs
-  pub rises : Rises s.indents
-  pub built : Built s.indents (mark_of s) xs [] (length xs) s.keys s.levels
-
--- behind the gap and the ends of blocks none stands further in
-abbrev pub AtEdge : State → Type 0
-AtEdge s = s.levels ≡ [] → innermost s.indents ≤ edge_of (mark_of s)
 
 -- the slots behind events, at the place q
 abbrev Next : List Slot → List Event → List Open → Indents → Place → List Candidate → List Level → Type 0
@@ -81,26 +53,6 @@ more xs es = omega (arith, slots_length xs es)
 level_kind : (sequence b : Bool) → pick sequence b (not b) ≡ true → b ≡ sequence
 level_kind true b c = c
 level_kind false b c = not-true b c
-
-pub zero_level : (s : State) → in_flow s ≡ false → s.levels ≡ []
-unfolding in_flow
-zero_level s e = by_levels s.levels e
-  where
-    by_levels : (ls : List Level) → elim ls [ [] ↦ false | x ∷ xs ↦ true ] ≡ false → ls ≡ []
-    by_levels [] f = refl
-    by_levels (l ∷ ls) f = true_false f
-
-pub at_zero : {i : Indents} {m : Mark} {xs : List Slot} {n : ℕ} {ks : List Candidate} → Built i m xs [] n ks [] → Leads 0 (blocks i) xs
-at_zero (outside h s l) = l
-
--- the blocks that are unrolled end
-pub ends_lead : {es : List Event} (edge : ℕ) (i : Indents) (xs : List Slot) → Turned (replicate (unroll edge i.indent i.entries).ended block) es [] → Leads 0 (blocks i) xs
-    → Leads 0 (blocks (unroll edge i.indent i.entries).indents) (slots xs es)
-ends_lead edge i xs e h =
-    let u = unroll edge i.indent i.entries in
-    let b = replicate u.ended block in
-    leads_says 0 (b ++ blocks u.indents) (blocks u.indents) xs (omega arith) (turned_over b [] (blocks u.indents) e)
-    (rw (replicate-append-replicate, unroll_blocks edge i.indent i.entries) h)
 
 -- what '-', '?' and ':' leave open: a block, at level 0, or a pair
 abbrev begun : Bool → Bool → List Open
@@ -149,7 +101,6 @@ entered {i} {m} {xs} {n} {ks} pair r b e (inside {ls = ls} h t k) =
     let g : Built i m xs (held e.0) n ks ls = rw (begun_held pair t e.2) (rw f at k) in
     rw (e.1, f) (inside tt (e.2.tidy t) g)
 
--- a move from the state s over the token t to the place q
 module _ (s : State) (t : Token) (q : Place) (xs : List Slot) (f : FurtherOn s.place q) where
   onward : MovesOn s.indents (mark_of s) s.indents q.mark
   onward = goes_to (same_refl _) f

@@ -1,35 +1,35 @@
--- A run leaves what is open nested: each gap, each move and the end, from the front (for Nesting).
-use Rattle.std.specs.Prelude.{◌<◌, ℕ, false, true, List, [], ◌++◌, ◌∷◌, ◌≡◌, refl, length}
+-- Theorems about specs/NestingSteps, and what rests on them.
+use Rattle.std.specs.Prelude.{◌<◌, ℕ, false, true, List, [], ◌++◌, ◌∷◌, ◌≡◌, length}
 use Rattle.std.proofs.Common.{◌∙◌, sym, le_refl, arith}
 use Rattle.yaml_text.specs.declared.Mark.{Mark}
 use Rattle.yaml_text.specs.Mark.{Place, edge_of, origin}
 use Rattle.yaml_text.specs.Test.{by_test, true_false}
 use Rattle.yaml_text.specs.All.{All}
-use Rattle.yaml_text.proofs.PlaceLaws.{FurtherOn, fits_refl}
+use Rattle.yaml_text.specs.PlaceLaws.{FurtherOn, fits_refl}
 use Rattle.yaml_lexeme.specs.Token.{StreamEnd, StreamStart, Token, empty_token}
-use Rattle.yaml_lexeme.specs.Role.{Open, role}
+use Rattle.yaml_lexeme.specs.Role.{Open}
 use Rattle.yaml_scan.specs.declared.Candidate.{Candidate}
 use Rattle.yaml_scan.specs.declared.Candidate.TheVariants.{Absent, Possible}
 use Rattle.yaml_scan.specs.declared.Level.{Level}
 use Rattle.yaml_scan.specs.declared.Limits.{Limits}
 use Rattle.yaml_scan.specs.Indent.{Indents, unroll}
-use Rattle.yaml_scan.specs.IndentLaws.{Rises, Same, open_blocks, same_refl, unroll_all, unroll_blocks, unroll_none, unroll_rises, unroll_within}
+use Rattle.yaml_scan.specs.IndentLaws.{Rises, Same, same_refl, unroll_all, unroll_blocks, unroll_none, unroll_rises, unroll_within}
 use Rattle.yaml_scan.specs.Keys.{top_key}
 use Rattle.yaml_scan.specs.State.{Event, News, State, block_ends, ends_with, goes_on, in_flow, mark_of, preceded, put, unroll_to}
-use Rattle.yaml_scan.specs.Scan.{begin, outcome, scanned, step, unrolled}
+use Rattle.yaml_scan.specs.Scan.{outcome, scanned, step, unrolled}
 use Rattle.yaml_scan.specs.Candidates.{Over}
 use Rattle.yaml_scan.specs.Slots.{Slot, flat, slot, slots, tokens_of}
-use Rattle.yaml_scan.proofs.SlotLaws.{flat_append, slots_append, slots_length}
+use Rattle.yaml_scan.specs.SlotLaws.{flat_append, slots_append, slots_length}
 use Rattle.yaml_scan.specs.Moves.{Move, Moves, begins, closes, leaves, opens, parts, tells, uses}
-use Rattle.yaml_scan.proofs.Steps.{Gapped, Takes, gapped, inside, lapses, stays, step_by, unrolled_state}
-use Rattle.yaml_scan.proofs.Runs.{puts_ends}
+use Rattle.yaml_scan.specs.Steps.{Gapped, Takes, gapped, inside, lapses, stays, unrolled_state}
+use Rattle.yaml_scan.proofs.Steps.{step_by}
+use Rattle.yaml_scan.specs.Runs.{puts_ends}
 use Rattle.theorems.specs.Induction.{outcome_good}
-use Rattle.theorems.specs.Nested.{Nested, done, kept, then}
-use Rattle.theorems.proofs.NestedLaws.{silent}
-use Rattle.theorems.proofs.Opened.{Built, built_says, built_top, built_without, outside}
-use Rattle.theorems.proofs.NestingMoves.{AtEdge, Stands, at_zero, ends_lead, ends_turn, goes_to, move_builds, zero_level}
-
--- a gap
+use Rattle.theorems.specs.NestedLaws.{silent}
+use Rattle.theorems.specs.Opened.{Built, built_says, built_top, built_without, outside}
+use Rattle.theorems.specs.NestingMoves.{AtEdge, Stands, at_zero, ends_lead, ends_turn, goes_to, zero_level}
+use Rattle.theorems.proofs.NestingMoves.{move_builds}
+use Rattle.theorems.specs.NestingSteps.{unrolled_in, unrolled_out, Closes, StandsOn, begin_stands}
 
 -- a candidate that is left at the mark m is of this line
 abbrev Calm : Mark → Candidate → Type 0
@@ -50,8 +50,6 @@ unfolding in_flow top_key
 gap_stands (gapped f spares (inside e)) h = (record { counted = h.counted; rises = h.rises; built = further f h.built }, λ z. true_false (sym e ∙ z))
 gap_stands (gapped f spares (lapses e)) h = (record { counted = h.counted; rises = h.rises; built = further f (built_without h.built) }, λ _. tt)
 gap_stands {s} {t} (gapped f spares (stays e k)) h = (record { counted = h.counted; rises = h.rises; built = further f (built_top h.built) }, λ _. calm (mark_of t) (top_key s.keys) k)
-
--- the ends of blocks
 
 -- at level 0; while a candidate is left none ends
 ends_build : {xs : List Slot} {ks : List Candidate} (i : Indents) (p : Place) (c : Candidate) → Calm p.mark c → Built i p.mark xs [] (length xs) (c ∷ ks) []
@@ -75,14 +73,6 @@ zero_build : {i : Indents} {xs : List Slot} {ks : List Candidate} (p : Place) �
 unfolding top_key
 zero_build {i} p k (outside {c = c} h s l) = ends_build i p c k (outside {c = c} h s l)
 
-pub unrolled_in : (t : State) → in_flow t ≡ true → unrolled t ≡ record { ended = 0; indents = t.indents }
-unfolding unrolled
-unrolled_in t e = rw (e, unrolled)
-
-pub unrolled_out : (t : State) → in_flow t ≡ false → unrolled t ≡ unroll_to (edge_of (mark_of t)) t
-unfolding unrolled
-unrolled_out t e = rw (e, unrolled)
-
 not_zero : (t : State) → in_flow t ≡ true → t.levels ≡ [] → ⊥
 unfolding in_flow
 not_zero t e z = true_false (sym (rw z at e))
@@ -102,12 +92,6 @@ unrolled_stands t xs h c =
       },
       λ _. unroll_within _ t.indents.indent t.indents.entries h.rises,
     ))
-
--- a run
-
--- StreamEnd comes last, and there none is open
-abbrev pub Closes : List Token → Type 0
-Closes ts = (us : List Token) × (m : Mark) × (ts ≡ us ++ (empty_token StreamEnd m ∷ [])) × Nested [] us []
 
 abbrev Good : State → List Event → Type 0
 Good s fs = (xs : List Slot) → Stands s xs → Closes (flat (slots xs fs))
@@ -153,11 +137,6 @@ end_nested s es m xs h edge =
       rw (unroll_all s.indents.indent s.indents.entries h.rises) at l,
     )
 
--- the slots behind a step stand as well
-abbrev pub StandsOn : State → News → Type 0
-StandsOn s (goes_on es u) = (xs : List Slot) → Stands s xs → Stands u (slots xs es)
-StandsOn s (ends_with es) = (xs : List Slot) → Stands s xs → Closes (flat (slots xs es))
-
 pub step_stands : (limits : Limits) (s : State) → All News (StandsOn s) (step limits s)
 step_stands limits s = step_by limits s by_news
   where
@@ -168,11 +147,6 @@ step_stands limits s = step_by limits s by_news
         let b = unrolled_stands t xs j.0 j.1 in
         rw (slots_append xs bs es) (move_stands (unrolled_state t) u es m k (slots xs bs) b.0 b.1)
     by_news t g (ends_with es) m k = gap_nested s t es g (end_nested (unrolled_state t) es m)
-
--- StreamStart was given
-pub begin_stands : (cs : List ℕ) → Stands (begin cs) (slot (empty_token StreamStart origin) [] ∷ [])
-unfolding flat role open_blocks
-begin_stands cs = record { counted = refl; rises = tt; built = outside tt tt (λ os. then kept done) }
 
 pub scan_nested : (limits : Limits) (bytes : List ℕ) (es : List Event) → outcome limits bytes ≡ scanned es → Closes (tokens_of es)
 unfolding slots

@@ -1,4 +1,4 @@
--- Every refusal but 4 and 5 has its rule: a text that is stopped is stopped by 1, 2 or 3, or by a number from 10 to 49, whatever the limits.
+-- Theorems about specs/Numbers, and what rests on them.
 use Rattle.std.specs.Prelude.{◌≤◌, suc, zero, ℕ, Bool, ◌&&◌, false, not, true, List, [], ◌∷◌, ◌⊎◌, ◌≡◌, refl, T, leb, ltb, length}
 use Rattle.std.proofs.Common.{inl, inr, arith, leb-true}
 use Rattle.yaml_text.specs.declared.Decoded.{Decoded}
@@ -26,8 +26,6 @@ use Rattle.yaml_scan.specs.Choice.{choice}
 use Rattle.yaml_scan.specs.Fetch.{fetch, fetch_anchor, fetch_block_scalar, fetch_flow_scalar, fetch_plain_scalar, fetch_tag}
 use Rattle.yaml_scan.specs.Scan.{Outcome, after_events, after_step, begin, outcome, run, scan, scanned, spent, step, stopped, to_next_token}
 use Rattle.theorems.specs.ReaderNumbers.{By, anchor_by, blanks_and_comment_by, block_scalar_by, by_bind, by_need, directive_by, flow_scalar_by, reads, refuses, rule, skip_gap_by, tag_by}
-
--- blocks and keys: 41, 48
 
 stack_by : (room : ℕ) (m : Mark) (i : ℕ) (ends : Bool) (s : Indents) → By rule Indents (stack room m i ends s)
 unfolding stack
@@ -59,8 +57,6 @@ unfolding lapse_key
 lapse_key_by s =
     by_test (in_flow s) (λ e. rw (e, lapse_key) reads) (λ e. rw (e, lapse_key) (by_bind _ (lapse_by (mark_of s) (top_key s.keys)) (λ _. reads)))
 
--- brackets: 28, 47
-
 scan_bracket_by : (k : Kind) (p : Place) → By rule Lexeme (scan_bracket k p)
 unfolding scan_bracket
 scan_bracket_by k p = by_bind _ (blanks_and_comment_by (skip_by 1 p)) (λ _. reads)
@@ -72,14 +68,10 @@ stack_bracket_by limits s =
     (λ e. rw (e, stack_bracket) (by_bind _ (stack_by limits.entries (mark_of s) _ false s.indents) (λ _. reads)))
     (λ e. rw (e, stack_bracket) reads)
 
--- 46
-
 value_by_by : (limits : Limits) (k : Candidate) (s : State) → By rule News (value_by limits k s)
 unfolding value_by value_with value_without
 value_by_by limits Absent s = by_need _ 46 (mark_of s) _ tt (by_bind _ (roll_state_by limits (mark_of s) s) (λ _. reads))
 value_by_by limits (Possible required n k) s = by_bind _ (roll_state_by limits k s) (λ _. reads)
-
--- 49
 
 after_marker_by : (starts : Bool) (p : Place) → By rule Place (after_marker starts p)
 unfolding after_marker
@@ -107,8 +99,6 @@ fetch_by limits AtPlain s = reads
 fetch_by limits (AtAnchor alias) s = by_bind _ (anchor_by alias s.place) (λ _. reads)
 fetch_by limits (AtBlock literal) s = by_bind _ (block_scalar_by literal _ s.place) (λ _. reads)
 fetch_by limits (AtQuoted single) s = by_bind _ (flow_scalar_by (in_flow s) single _ s.place) (λ _. reads)
-
--- the run
 
 step_by_rule : (limits : Limits) (s : State) → By rule News (step limits s)
 unfolding step to_next_token

@@ -1,6 +1,4 @@
--- Demand 3, 3. For every text that the rules accept, of c characters and b bytes:
--- lent words for 2c + 3 records and bytes for 3b / 2, or more, the answer is neither 4 nor 5; it is accepted, with the counts of its list.
--- (Over the definition's answer; a function that is proved to give it keeps the same.)
+-- Theorems about specs/Room, and what rests on them.
 use Rattle.std.specs.Prelude.{◌*◌, ◌+◌, ◌/◌, ◌≤◌, ℕ, List, ◌≡◌, length}
 use Rattle.std.proofs.Common.{arith, le-ltb}
 use Rattle.yaml_text.specs.Utf8.{chars}

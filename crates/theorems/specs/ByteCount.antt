@@ -15,7 +15,7 @@ use Rattle.yaml_scan.specs.Bracket.{implicit_open}
 use Rattle.yaml_scan.specs.Document.{all_ends}
 use Rattle.yaml_scan.specs.Scan.{outcome, scanned, unrolled}
 use Rattle.yaml_scan.specs.Moves.{Move, Moves, begins, block_start, closes, goes_in, leaves, opens, pair_end, parts, tells, uses}
-use Rattle.yaml_scan.proofs.Steps.{Gapped, Takes, gapped, unrolled_state}
+use Rattle.yaml_scan.specs.Steps.{Gapped, Takes, gapped, unrolled_state}
 use Rattle.yaml_scan.specs.Slots.{tokens_of}
 use Rattle.theorems.specs.Induction.{outcome_good}
 use Rattle.theorems.specs.Weigh.{sum, tokens_weigh, weigh, weigh_append, weigh_before, weigh_ends, weigh_if, weigh_last, weigh_one}

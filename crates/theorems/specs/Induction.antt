@@ -4,14 +4,15 @@ use Rattle.std.specs.Prelude.{List, [], ◌++◌, ◌∷◌, ◌≡◌, refl, le
 use Rattle.std.proofs.Common.{append_assoc}
 use Rattle.yaml_text.specs.Mark.{origin}
 use Rattle.yaml_text.specs.All.{All}
-use Rattle.yaml_text.proofs.DecodeLaws.{Decodes}
+use Rattle.yaml_text.specs.DecodeLaws.{Decodes}
 use Rattle.yaml_lexeme.specs.Token.{StreamStart, empty_token}
 use Rattle.yaml_scan.specs.declared.Limits.{Limits}
 use Rattle.yaml_scan.specs.State.{Event, News, State, block_ends, ends_with, goes_on, mark_of, preceded, put}
 use Rattle.yaml_scan.specs.Scan.{Outcome, after_events, after_step, begin, outcome, run, scan, scanned, spent, step, stopped, unrolled}
-use Rattle.yaml_scan.proofs.Budget.{on_news, outcome_by}
+use Rattle.yaml_scan.specs.Budget.{on_news, outcome_by}
 use Rattle.yaml_scan.specs.Moves.{Moves}
-use Rattle.yaml_scan.proofs.Steps.{Gapped, Takes, step_by, unrolled_state}
+use Rattle.yaml_scan.specs.Steps.{Gapped, Takes, unrolled_state}
+use Rattle.yaml_scan.proofs.Steps.{step_by}
 
 -- of what was scanned
 abbrev pub OfOutcome : (List Event → Type 0) → Outcome → Type 0

@@ -6,4 +6,10 @@ pub mod Tokens
 pub mod ByteCount
 pub mod Bytes
 pub mod Nested
+pub mod NestedLaws
+pub mod Opened
+pub mod NestingMoves
+pub mod NestingSteps
+pub mod Nesting
 pub mod ReaderNumbers
+pub mod Answered

@@ -9,8 +9,8 @@ use Rattle.yaml_text.specs.Class.{is_blank_or_breakz, is_z}
 use Rattle.yaml_text.specs.Mark.{Place, look, origin}
 use Rattle.yaml_text.specs.Test.{by_pick}
 use Rattle.yaml_text.specs.All.{All}
-use Rattle.yaml_text.proofs.DecodeLaws.{NoNul, no_nul_at}
-use Rattle.yaml_text.proofs.PlaceLaws.{fits_no_nul, left}
+use Rattle.yaml_text.specs.DecodeLaws.{NoNul, no_nul_at}
+use Rattle.yaml_text.specs.PlaceLaws.{fits_no_nul, left}
 use Rattle.yaml_lexeme.specs.Token.{FlowMappingEnd, FlowMappingStart, StreamEnd, StreamStart, Token, empty_token}
 use Rattle.yaml_lexeme.specs.Block.{one_if}
 use Rattle.yaml_scan.specs.declared.Candidate.{Candidate}
@@ -25,7 +25,8 @@ use Rattle.yaml_scan.specs.Bracket.{implicit_open}
 use Rattle.yaml_scan.specs.Document.{all_ends}
 use Rattle.yaml_scan.specs.Scan.{begin, outcome, scanned, step, unrolled}
 use Rattle.yaml_scan.specs.Moves.{Begins, Enters, Move, Moves, begins, block_start, closes, goes_in, leaves, opens, pair_end, parts, tells, uses}
-use Rattle.yaml_scan.proofs.Steps.{Gapped, Lapses, Takes, gapped, inside, lapses, one_most, stays, unrolled_blocks, unrolled_state}
+use Rattle.yaml_scan.specs.Steps.{Gapped, Lapses, Takes, gapped, inside, lapses, one_most, stays, unrolled_state}
+use Rattle.yaml_scan.proofs.Steps.{unrolled_blocks}
 use Rattle.yaml_scan.specs.Slots.{tokens_of}
 use Rattle.theorems.specs.Induction.{Leads, outcome_good, step_leads}
 use Rattle.theorems.specs.Weigh.{sum, tokens_weigh, weigh, weigh_append, weigh_before, weigh_ends, weigh_if, weigh_last, weigh_one}

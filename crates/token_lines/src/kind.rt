@@ -72,12 +72,26 @@ fn put_one(outlet: &mut Outlet, out: &mut [u8], o: Waiting, bytes: &[u8], t: Tex
     put_quoted(outlet, out, blank, &bytes[from..to])
 }
 
-fn put_two(outlet: &mut Outlet, out: &mut [u8], o: Waiting, bytes: &[u8], t: Text, u: Text) -> Waiting {
+fn put_two(
+    outlet: &mut Outlet,
+    out: &mut [u8],
+    o: Waiting,
+    bytes: &[u8],
+    t: Text,
+    u: Text,
+) -> Waiting {
     let first = put_one(outlet, out, o, bytes, t);
     put_one(outlet, out, first, bytes, u)
 }
 
-fn put_scalar(outlet: &mut Outlet, out: &mut [u8], o: Waiting, bytes: &[u8], s: Style, t: Text) -> Waiting {
+fn put_scalar(
+    outlet: &mut Outlet,
+    out: &mut [u8],
+    o: Waiting,
+    bytes: &[u8],
+    s: Style,
+    t: Text,
+) -> Waiting {
     let style = put_style(outlet, out, o, s);
     put_one(outlet, out, style, bytes, t)
 }
@@ -99,12 +113,20 @@ fn put_held(outlet: &mut Outlet, out: &mut [u8], o: Waiting, bytes: &[u8], k: Ki
         Kind::Anchor(t) => put_one(outlet, out, o, bytes, t),
         Kind::Tag { handle, suffix } => put_two(outlet, out, o, bytes, handle, suffix),
         Kind::Scalar { style, text } => put_scalar(outlet, out, o, bytes, style, text),
-        Kind::ReservedDirective { name, parameters } => put_two(outlet, out, o, bytes, name, parameters),
+        Kind::ReservedDirective { name, parameters } => put_two(
+            outlet, out, o, bytes, name, parameters,
+        ),
         _ => o,
     }
 }
 
-pub fn put_token(outlet: &mut Outlet, out: &mut [u8], o: Waiting, t: Token, bytes: &[u8]) -> Waiting {
+pub fn put_token(
+    outlet: &mut Outlet,
+    out: &mut [u8],
+    o: Waiting,
+    t: Token,
+    bytes: &[u8],
+) -> Waiting {
     let k = t.kind;
     let mark = put_mark(outlet, out, o, t.start);
     let kind = put_kind(outlet, out, mark, k);

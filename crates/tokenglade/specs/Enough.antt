@@ -3,9 +3,11 @@ use Rattle.std.specs.Prelude.{◌*◌, ◌+◌, ◌/◌, ◌≤◌, ℕ, List, �
 use Rattle.std.proofs.Common.{inl, inr, ⊎_elim, arith}
 use Rattle.yaml_text.specs.Utf8.{chars}
 use Rattle.yaml_lexeme.specs.Record.{mark_in, record_words}
-use Rattle.yaml_scan.proofs.Budget.{Decided, answer_decided}
+use Rattle.yaml_scan.specs.Budget.{Decided}
+use Rattle.yaml_scan.proofs.Budget.{answer_decided}
 use Rattle.yaml_scan.specs.Scan.{Verdict, accepted, answer, no_verdict, outcome, refusal, standard, stopped}
-use Rattle.theorems.proofs.Answered.{Gives, Refuses, Ruled, accepted_gives, enough_room, refused_number, refused_says}
+use Rattle.theorems.specs.Answered.{Gives, Refuses, Ruled, enough_room, refused_number}
+use Rattle.theorems.proofs.Answered.{accepted_gives, refused_says}
 use Rattle.tokenglade.specs.Numbers.{GivesNumbers, numbers}
 
 module _ (text words₀ bytes₀ words bytes ns : List ℕ) where

@@ -8,7 +8,7 @@ use Rattle.yaml_job.specs.declared.Closing.{Closing}
 use Rattle.yaml_job.specs.declared.Closing.TheVariants.{Done, NotDone}
 use Rattle.yaml_job.specs.declared.JobAnswer.{JobAnswer}
 use Rattle.yaml_job.specs.declared.JobAnswer.TheVariants.{Closed, Lost, Seed}
-use Rattle.yaml_job.proofs.Done.{JobDone}
+use Rattle.yaml_job.specs.Done.{JobDone}
 use Rattle.job.specs.JobHolds.{JobPromises}
 use Rattle.job.specs.JobRun.{JobGave, run_done, run_not_lost, run_number}
 

@@ -1,4 +1,4 @@
-// The entries for callers in C and Rust.
+// The entries for callers in C and Rust: what `tokenglade_c` exports.
 #![tactic(auto)]
 
 ghost use Rattle.std.specs.Prelude.{◌≡◌};
@@ -28,8 +28,7 @@ pub fn numbers_of(a: Answer) -> [u32; 6]
 }
 
 // Tokens and decoded text of a text, in lent words and bytes; and the numbers of the answer.
-#[unsafe(no_mangle)]
-pub extern "C" fn tokenglade_scan(
+pub fn tokenglade_scan(
     text: &[u8],
     words: &mut [u32],
     bytes: &mut [u8],
@@ -55,8 +54,7 @@ fn next_numbers(a: Next) -> [u32; 5]
 }
 
 // The next token of a text; and the numbers of the answer.
-#[unsafe(no_mangle)]
-pub extern "C" fn tokenglade_next(
+pub fn tokenglade_next(
     state: &mut [u32; HELD_WORDS],
     text: &[u8],
     words: &mut [u32],
@@ -105,8 +103,7 @@ fn closed_numbers(c: Closing) -> [u32; 7]
 }
 
 // The next seed of a job sheet, or the closing record.
-#[unsafe(no_mangle)]
-pub extern "C" fn tokenglade_job(
+pub fn tokenglade_job(
     state: &mut [u32; JOB_WORDS],
     text: &[u8],
     words: &mut [u32],

@@ -3,8 +3,7 @@ use outlets::Outlet;
 
 // The ways to call the program.
 pub(crate) fn write_usage(to: &mut Outlet) -> bool {
-    let a =
-        to.put(b"  tokenglade job [SHEET] [--record FILE] [--seeds FILE] [--allow-empty]\n");
+    let a = to.put(b"  tokenglade job [SHEET] [--record FILE] [--seeds FILE] [--allow-empty]\n");
     let b = to.put(b"  tokenglade tokens [SHEET]\n");
     let c = to.put(b"  tokenglade help\n");
     a & b & c

@@ -12,8 +12,9 @@ use Rattle.yaml_text.specs.declared.Decoded.TheVariants.{Char, End, Ill}
 use Rattle.yaml_text.specs.Class.{peek}
 use Rattle.yaml_text.specs.Utf8.{by_len, chars, first, four, len_of, three, two}
 use Rattle.yaml_text.specs.Test.{by_pick, by_test}
-use Rattle.yaml_text.proofs.Utf8Laws.{by_len_four, chars_end, chars_next, chars_none, first_at}
-use Rattle.yaml_text.proofs.ByteLaws.{first_ascii}
+use Rattle.yaml_text.specs.Utf8Laws.{by_len_four, chars_end, chars_none, first_at}
+use Rattle.yaml_text.proofs.Utf8Laws.{chars_next}
+use Rattle.yaml_text.specs.ByteLaws.{first_ascii}
 
 -- the character by the length n that its lead byte tells
 module _ (s : List ℕ) (at : ℕ) (h : at < length s) (n : ℕ) (len : n ≡ len_of (get_or s at 0)) where

@@ -1,5 +1,4 @@
--- A sheet in block form, with its list on the line on which the list's name ends, never meets 51, whatever its length, and its job is done. Behind each scalar stands
--- a ',', a ':' or a Key; but behind the last seed and the last text, where few tokens are left. So its tokens are orderly (Orderly in yaml_stream).
+-- Theorems about specs/BlockSheet, and what rests on them.
 use Rattle.std.specs.Prelude.{◌*◌, ◌+◌, ◌/◌, ◌<◌, ◌≤◌, ℕ, false, List, [], ◌∷◌, ◌⊎◌, ◌≡◌, refl, length}
 use Rattle.std.proofs.Common.{inl, inr, subst, sym, arith}
 use Rattle.yaml_text.specs.declared.Mark.{Mark}
@@ -12,8 +11,8 @@ use Rattle.yaml_scan.specs.State.{State}
 use Rattle.yaml_scan.specs.Slots.{Slot, flat}
 use Rattle.theorems.specs.Accepted.{Accepts}
 use Rattle.yaml_stream.specs.Stream.{broken, fresh, least_records, ready, scanning, too_many_wait}
-use Rattle.yaml_stream.proofs.Waiting.{StreamReaches, hear_breaks, here}
-use Rattle.yaml_stream.proofs.KeysNear.{stream_start}
+use Rattle.yaml_stream.specs.Waiting.{StreamReaches, hear_breaks, here}
+use Rattle.yaml_stream.specs.KeysNear.{stream_start}
 use Rattle.yaml_stream.proofs.NoCrowd.{orderly_no_51, orderly_waits}
 use Rattle.yaml_stream.specs.Orderly.{InOrder, Orderly, SetApart, part, part_of, scalar_part, sets_apart}
 use Rattle.yaml_job.specs.declared.Field.{Field}
@@ -21,12 +20,10 @@ use Rattle.yaml_job.specs.declared.Field.TheVariants.{Panel, Sample, Seeds}
 use Rattle.yaml_job.specs.declared.Form.TheVariants.{Block, Braces}
 use Rattle.yaml_job.specs.Job.{follow, job}
 use Rattle.yaml_job.specs.Shape.{Entries, Fields, Is, IsScalar, Shape, ValueOf, field, last_seed, next_field, next_seed, no_field, no_seed, panel_text, sample_text, seed_list, shape, times}
-use Rattle.yaml_job.proofs.JobReads.{ends_done}
-use Rattle.yaml_job.proofs.Calls.{talk_of}
+use Rattle.yaml_job.specs.Reads.{ends_done}
+use Rattle.yaml_job.specs.Calls.{talk_of}
 use Rattle.yaml_job.proofs.Done.{done_or_51}
-use Rattle.yaml_job.specs.BlockSheet.{InBlock, NamesNear, OnNameLine, most_behind}
-
--- the sheet's tokens are orderly
+use Rattle.yaml_job.specs.BlockSheet.{InBlock, OnNameLine, most_behind}
 
 -- whatever stands before them
 abbrev AllOrderly : List Token → Type 0
@@ -102,7 +99,6 @@ unfolding InOrder part
 shape_orderly (shape {g = Block} {s = s} {b = b} a i h d l n) f o = (rw a tt, (rw i tt, fields_orderly h d l (λ f. omega (arith, n f)) o.1.1 s b))
 shape_orderly (shape {g = Braces} a i h d l n) f o = let z : ◌≡◌ {A = ℕ} 0 1 = cc in absurd (omega arith)
 
--- an accepted text of the shape, in block form, with its list on its name's line; whatever words and bytes are lent
 module _ (limits : Limits) (bytes : List ℕ) (ts : List Token) (vs : List ℕ) (words room : ℕ) (a : Accepts limits bytes ts) (s : Shape ts vs []) (i : InBlock ts) (o : OnNameLine ts) where
   pub block_sheet_no_51 : (m : Mark) → StreamReaches limits room (fresh limits bytes words) (broken too_many_wait m) → ⊥
   block_sheet_no_51 m r = orderly_no_51 limits bytes ts most_behind a (shape_orderly s i o) room (omega arith) words m r

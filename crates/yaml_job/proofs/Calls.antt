@@ -1,6 +1,6 @@
--- The calls: what each tells, the count, the budget; and that the calls together say what the reader makes of the tokens that the stream gives.
+-- Theorems about specs/Calls, and what rests on them.
 use Prim.Native.Nat.{◌*◌, ◌+◌, ◌<◌, ◌≤◌, suc, zero, ℕ}
-use Rattle.std.specs.Prelude.{Bool, ◌&&◌, false, not, true, List, [], ◌∷◌, ◌≡◌, length}
+use Rattle.std.specs.Prelude.{Bool, ◌&&◌, false, not, true, List, [], ◌≡◌}
 use Rattle.std.proofs.Common.{◌∙◌, not-suc-le-zero, arith}
 use Rattle.std.proofs.Math.Path.{refl}
 use Rattle.yaml_text.specs.declared.Mark.{Mark}
@@ -9,7 +9,7 @@ use Rattle.yaml_text.specs.Test.{by_pick, on_pick}
 use Rattle.yaml_lexeme.specs.declared.Style.TheVariants.{Plain}
 use Rattle.yaml_lexeme.specs.Token.{BlockMappingStart, FlowEntry, FlowMappingEnd, FlowMappingStart, FlowSequenceEnd, FlowSequenceStart, Key, Kind, Scalar, StreamEnd, StreamStart, Token, Value}
 use Rattle.yaml_scan.specs.declared.Limits.{Limits}
-use Rattle.yaml_stream.specs.Stream.{Heard, Next, Stream, call, ended, fresh, hear, on_answer, refusal, spent, token}
+use Rattle.yaml_stream.specs.Stream.{Next, Stream, call, ended, fresh, hear, on_answer, refusal, spent, token}
 use Rattle.yaml_job.specs.declared.Closing.{Closing}
 use Rattle.yaml_job.specs.declared.Closing.TheVariants.{Done, NotDone}
 use Rattle.yaml_job.specs.declared.Effect.{Effect}
@@ -18,23 +18,14 @@ use Rattle.yaml_job.specs.declared.Field.{Field}
 use Rattle.yaml_job.specs.declared.Field.TheVariants.{Panel, Sample, Seeds}
 use Rattle.yaml_job.specs.declared.Form.{Form}
 use Rattle.yaml_job.specs.declared.Form.TheVariants.{Block, Braces}
-use Rattle.yaml_job.specs.declared.JobAnswer.{JobAnswer}
-use Rattle.yaml_job.specs.declared.JobAnswer.TheVariants.{Closed, Lost, Seed}
+use Rattle.yaml_job.specs.declared.JobAnswer.TheVariants.{Closed}
 use Rattle.yaml_job.specs.declared.Met.{Met}
 use Rattle.yaml_job.specs.declared.ShapePlace.{ShapePlace}
 use Rattle.yaml_job.specs.declared.ShapePlace.TheVariants.{AtEnd, AtEntry, AtField, AtList, AtMapping, AtName, AtStart, AtText, AtValue, BehindField, BehindSeed}
-use Rattle.yaml_job.specs.Job.{Job, JobCalled, Sight, Talk, adds, all_met, asks, behind_value, by_answer, by_effect, closed, closes, effect, end_of, follow, has, holds, is, is_scalar, job, job_call, job_called, meets, most_asked, named, no_place, none_met, on_said, placed, reading, seed_of, sight, spelled, talk, wants}
-use Rattle.yaml_job.proofs.Seen.{is_seed}
-use Rattle.yaml_job.proofs.JobReads.{End, Judgement, after_effect, ends_done, judged, stops, unread}
-
--- one call
-
--- n seeds were handed over before it
-pub data JobTells (n : ℕ) : JobCalled → Type 0 where
-  tells_seed : {x : Stream} {p : ShapePlace} {m : Met} {v : ℕ} → JobTells n (job_called (Seed v (suc n)) (reading x p m (suc n)))
-  tells_done : JobTells n (closes (Done n))
-  tells_not : {r : ℕ} {k : Mark} → JobTells n (closes (NotDone r k n))
-  tells_lost : {x : Stream} {p : ShapePlace} {m : Met} → JobTells n (job_called Lost (reading x p m n))
+use Rattle.yaml_job.specs.Job.{Job, JobCalled, Sight, Talk, adds, all_met, asks, behind_value, by_answer, by_effect, closed, effect, end_of, follow, has, holds, is, is_scalar, job, job_call, meets, most_asked, named, no_place, none_met, on_said, placed, reading, seed_of, sight, spelled, wants}
+use Rattle.yaml_job.specs.Seen.{is_seed}
+use Rattle.yaml_job.specs.Reads.{Judgement, after_effect, judged}
+use Rattle.yaml_job.specs.Calls.{JobTells, CountsAll, talk_of, HasEnded, judge, tells_seed, tells_done, tells_not, tells_lost}
 
 effect_tells : (r : Effect) (k : Mark) (x : Stream) (n : ℕ) (go : ShapePlace → Met → JobCalled) → ((q : ShapePlace) (l : Met) → JobTells n (go q l))
     → JobTells n (by_effect r k x n go)
@@ -69,26 +60,6 @@ closing_stays limits room (reading x p m n) c e = by_call (asks_tells limits roo
     by_call tells_lost f = let z : ◌≡◌ {A = ℕ} 0 1 = cc in absurd (omega arith)
 closing_stays limits room (closed d) c e = let g : d ≡ c = cc in rw g
 
--- and each later call says the same
-pub closed_again : (limits : Limits) (room : ℕ) (c : Closing) → job_call limits room (closed c) ≡ closes c
-unfolding job_call
-closed_again limits room c = refl
-
--- the running count
-
-abbrev pub Counts : ℕ → List (ℕ × ℕ) → Type 0
-Counts n [] = Unit {0}
-Counts n (s ∷ ss) = (s.1 ≡ suc n) × Counts (suc n) ss
-
-abbrev pub count_of : Closing → ℕ
-count_of (Done n) = n
-count_of (NotDone r k n) = n
-
--- behind n seeds: each seed's count is that of the seeds handed over with it, a closing record's that of all
-pub record CountsAll (n : ℕ) (r : Talk) : Type 0 where
-  pub each : Counts n r.handed
-  pub all : (c : Closing) → r.last ≡ Closed c → count_of c ≡ n + length r.handed
-
 tells_counts : {a : JobCalled} {n : ℕ} (go : Job → Talk) → ((y : Stream) (q : ShapePlace) (l : Met) → CountsAll (suc n) (go (reading y q l (suc n)))) → JobTells n a
     → CountsAll n (on_said a go)
 tells_counts go h (tells_seed {x = y} {p = q} {m = l}) = let r = h y q l in record { each = (refl, r.each); all = λ c e. omega (arith, r.all c e) }
@@ -106,8 +77,6 @@ follow_counts limits room (suc k) x p m n =
 pub job_counts : (limits : Limits) (bytes : List ℕ) (words room k : ℕ) → CountsAll 0 (follow limits room k (job limits bytes words))
 unfolding job
 job_counts limits bytes words room k = follow_counts limits room k (fresh limits bytes words) AtStart none_met 0
-
--- the budget: what is left of the shape has fewer tokens, each time that no seed is handed over
 
 abbrev lack : Bool → ℕ
 lack true = 0
@@ -200,24 +169,6 @@ placed_lighter AtEnd m v = on_pick (Lighter (weight AtEnd m)) (is StreamEnd v) (
 effect_lighter : (p : ShapePlace) (m : Met) (v : Sight) → Lighter (weight p m) (effect p m v)
 unfolding effect
 effect_lighter p m v = on_pick (Lighter (weight p m)) (is StreamEnd v && not (all_met m)) (λ _. tt) (λ _. placed_lighter p m v)
-
--- all calls
-
-abbrev pub answer_of : ℕ → End → JobAnswer
-answer_of n ends_done = Closed (Done n)
-answer_of n (stops r k) = Closed (NotDone r k n)
-answer_of n unread = Lost
-
--- these seeds, counted behind n others, and the end
-unfoldable pub talk_of : ℕ → List ℕ → End → Talk
-talk_of n [] e = talk [] (answer_of n e)
-talk_of n (v ∷ vs) e = let r = talk_of (suc n) vs e in talk ((v, suc n) ∷ r.handed) r.last
-
-abbrev pub HasEnded : End → Type 0
-HasEnded e = e ≡ unread → ⊥
-
-abbrev pub judge : ShapePlace → Met → Heard → Judgement
-judge p m h = judged p m h.tokens h.last
 
 module _ (limits : Limits) (room : ℕ) where
   -- the answers of a call that may ask for f tokens yet, and of k calls behind it, where j calls of the stream come to an end

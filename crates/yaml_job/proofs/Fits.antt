@@ -1,27 +1,25 @@
--- A token of the shape has its place where the shape has it: so the reader comes to the end of a job, and hands over its seeds.
+-- Theorems about specs/Fits, and what rests on them.
 use Rattle.std.specs.Prelude.{ℕ, false, true, List, [], ◌++◌, ◌∷◌, ◌≡◌, refl}
 use Rattle.std.proofs.Common.{append-nil, ◌∙◌, ap, arith}
-use Rattle.yaml_text.specs.Class.{same}
 use Rattle.yaml_lexeme.specs.Token.{FlowEntry, FlowMappingEnd, FlowSequenceEnd, FlowSequenceStart, Key, StreamEnd, StreamStart, Token, Value, kind_bytes}
 use Rattle.yaml_lexeme.specs.Record.{laid, number_of, style_number, values_of}
 use Rattle.yaml_stream.specs.Stream.{Next}
 use Rattle.yaml_job.specs.declared.Effect.TheVariants.{Finishes, Hands, Passes}
 use Rattle.yaml_job.specs.declared.Field.{Field}
-use Rattle.yaml_job.specs.declared.Field.TheVariants.{Panel, Sample, Seeds}
 use Rattle.yaml_job.specs.declared.Form.{Form}
 use Rattle.yaml_job.specs.declared.Form.TheVariants.{Block, Braces}
 use Rattle.yaml_job.specs.declared.Met.{Met}
 use Rattle.yaml_job.specs.declared.ShapePlace.{ShapePlace}
 use Rattle.yaml_job.specs.declared.ShapePlace.TheVariants.{AtEnd, AtEntry, AtField, AtList, AtMapping, AtName, AtStart, AtText, AtValue, BehindField, BehindSeed}
-use Rattle.yaml_job.specs.Job.{adds, all_met, behind_value, effect, end_of, has, holds, named, none_met, placed, seed_of, sight, spelled}
-use Rattle.yaml_job.specs.Shape.{Entries, FieldOf, Fields, Is, IsScalar, IsSeed, Names, Shape, ValueOf, comma_field, field, last_field, last_seed, next_field, next_seed, no_field, no_seed, panel_text, sample_text, seed_list, shape, start_of}
+use Rattle.yaml_job.specs.Job.{adds, all_met, behind_value, effect, end_of, has, holds, none_met, placed, seed_of, sight}
+use Rattle.yaml_job.specs.Shape.{Entries, FieldOf, Fields, Is, IsScalar, IsSeed, Shape, ValueOf, comma_field, field, last_field, last_seed, next_field, next_seed, no_field, no_seed, panel_text, sample_text, seed_list, shape, start_of}
 use Rattle.yaml_job.proofs.Seen.{number_said}
-use Rattle.yaml_job.proofs.JobReads.{Judgement, Left, adds_left, all_left, ends_done, judged, judgement, none_yet}
+use Rattle.yaml_job.specs.Reads.{Judgement, Left, adds_left, all_left, ends_done, judged, judgement, none_yet}
+use Rattle.yaml_job.specs.Fits.{name_fits}
 
 abbrev passes : List ℕ → Judgement → Judgement
 passes vs r = judgement (vs ++ r.values) r.end
 
--- a token of the shape, at its place
 module _ (m : Met) (t : Token) where
   start_fits : Is StreamStart t → effect AtStart m (sight t) ≡ Passes AtMapping m
   unfolding effect placed number_of laid
@@ -40,12 +38,6 @@ module _ (m : Met) (t : Token) where
   unfolding effect placed number_of laid
   end_fits Block e = rw (e, effect, placed)
   end_fits Braces e = rw (e, effect, placed)
-
-  pub name_fits : (g : Form) (f : Field) → Names f t → has m f ≡ false → effect (AtName g) m (sight t) ≡ Passes (AtValue g f) (adds f m)
-  unfolding effect placed named number_of laid kind_bytes spelled same
-  name_fits g Sample n e = let k = n.2 in let d = n.3 in rw (k, effect, placed, named, d, e)
-  name_fits g Panel n e = let k = n.2 in let d = n.3 in rw (k, effect, placed, named, d, e)
-  name_fits g Seeds n e = let k = n.2 in let d = n.3 in rw (k, effect, placed, named, d, e)
 
   value_fits : (g : Form) (f : Field) → Is Value t → effect (AtValue g f) m (sight t) ≡ Passes (holds g f) m
   unfolding effect placed number_of laid

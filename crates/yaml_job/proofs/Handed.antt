@@ -1,7 +1,7 @@
--- Seeds handed over stay valid: whatever comes later, each is the value of a plain decimal scalar among the tokens given, in order, and further calls only add to them.
-use Rattle.std.specs.Prelude.{◌<◌, ◌≤◌, suc, zero, ℕ, ◌&&◌, List, [], ◌++◌, ◌∷◌, ◌≡◌, refl, length}
+-- Theorems about specs/Handed, and what rests on them.
+use Rattle.std.specs.Prelude.{◌<◌, ℕ, ◌&&◌, List, [], ◌∷◌, ◌≡◌, length}
 use Rattle.std.proofs.Math.Bool.{not}
-use Rattle.std.proofs.Common.{◌∙◌, ap, not-suc-le-zero, arith}
+use Rattle.std.proofs.Common.{◌∙◌, ap}
 use Rattle.yaml_text.specs.Class.{same}
 use Rattle.yaml_text.specs.Test.{by_pick, on_pick}
 use Rattle.yaml_lexeme.specs.declared.Style.TheVariants.{Plain}
@@ -15,23 +15,18 @@ use Rattle.yaml_job.specs.declared.Field.{Field}
 use Rattle.yaml_job.specs.declared.Field.TheVariants.{Panel, Sample, Seeds}
 use Rattle.yaml_job.specs.declared.Form.{Form}
 use Rattle.yaml_job.specs.declared.Form.TheVariants.{Block, Braces}
-use Rattle.yaml_job.specs.declared.JobAnswer.{JobAnswer}
-use Rattle.yaml_job.specs.declared.JobAnswer.TheVariants.{Closed, Lost, Seed}
 use Rattle.yaml_job.specs.declared.Met.{Met}
 use Rattle.yaml_job.specs.declared.ShapePlace.{ShapePlace}
 use Rattle.yaml_job.specs.declared.ShapePlace.TheVariants.{AtEnd, AtEntry, AtField, AtList, AtMapping, AtName, AtStart, AtText, AtValue, BehindField, BehindSeed}
-use Rattle.yaml_job.specs.Job.{Job, Talk, all_met, behind_value, effect, end_of, follow, has, holds, is, is_scalar, job, job_call, job_called, meets, named, no_place, none_met, on_said, placed, seed_of, sight, spelled, wants}
+use Rattle.yaml_job.specs.Job.{Talk, all_met, behind_value, effect, end_of, follow, has, holds, is, is_scalar, job, meets, named, no_place, none_met, placed, seed_of, sight, spelled, wants}
 use Rattle.yaml_job.specs.Shape.{IsScalar, IsSeed}
-use Rattle.yaml_job.proofs.Seen.{is_a_scalar, is_seed}
-use Rattle.yaml_job.proofs.JobReads.{Judgement, after_effect, judged, seed_seen}
-use Rattle.yaml_job.proofs.Calls.{judge}
-use Rattle.yaml_job.proofs.Done.{heard_of, job_says, seed_values, talk_values}
-
--- the values of seeds among these tokens, in order
-pub data Handed : List Token → List ℕ → Type 0 where
-  no_more : {ts : List Token} → Handed ts []
-  another : {t : Token} {ts : List Token} {vs : List ℕ} → Handed ts vs → Handed (t ∷ ts) vs
-  one : {t : Token} {v : ℕ} {ts : List Token} {vs : List ℕ} → IsSeed t v → Handed ts vs → Handed (t ∷ ts) (v ∷ vs)
+use Rattle.yaml_job.specs.Seen.{is_a_scalar, is_seed}
+use Rattle.yaml_job.specs.Reads.{Judgement, after_effect, judged}
+use Rattle.yaml_job.proofs.ReadsLaws.{seed_seen}
+use Rattle.yaml_job.specs.Calls.{judge}
+use Rattle.yaml_job.specs.Done.{heard_of, seed_values, talk_values}
+use Rattle.yaml_job.proofs.Done.{job_says}
+use Rattle.yaml_job.specs.Handed.{Handed, no_more, another, one}
 
 module _ (m : Met) (t : Token) where
   abbrev HandsSeed : Effect → Type 0
@@ -99,18 +94,3 @@ job_handed limits bytes words room k b =
     let e : seed_values (follow limits room k (job limits bytes words)).handed ≡ v.values =
     ap (λ (t : Talk). seed_values t.handed) (job_says limits bytes words room k b) ∙ talk_values 0 v.values v.end in
     rw e (values_handed AtStart none_met h.tokens h.last)
-
--- further calls
-said_first : (f g : Job → Talk) → ((i : Job) → (ss : List (ℕ × ℕ)) × ((f i).handed ≡ (g i).handed ++ ss)) → (a : JobAnswer) (j : Job)
-    → (ss : List (ℕ × ℕ)) × ((on_said (job_called a j) f).handed ≡ (on_said (job_called a j) g).handed ++ ss)
-said_first f g h (Seed v n) j = let k = h j in (k.0, ap (λ (ss : List (ℕ × ℕ)). (v, n) ∷ ss) k.1)
-said_first f g h (Closed d) j = ([], refl)
-said_first f g h Lost j = ([], refl)
-
-pub handed_first : (limits : Limits) (room k l : ℕ) → k ≤ l → (j : Job) → (ss : List (ℕ × ℕ)) × ((follow limits room l j).handed ≡ (follow limits room k j).handed ++ ss)
-unfolding follow
-handed_first limits room zero l b j = (_, refl)
-handed_first limits room (suc k) zero b j = absurd (not-suc-le-zero b)
-handed_first limits room (suc k) (suc l) b j =
-    let a = job_call limits room j in
-    said_first (λ i. follow limits room l i) (λ i. follow limits room k i) (λ i. handed_first limits room k l (omega arith) i) a.answer a.job

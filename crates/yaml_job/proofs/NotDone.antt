@@ -1,5 +1,4 @@
--- A job that is not done: whichever refusal is met first is the one given, the scanner's or the reader's; a text of the shape meets only the stream's own.
--- Its number is at least 1.
+-- Theorems about specs/NotDone, and what rests on them.
 use Rattle.std.specs.Prelude.{◌+◌, ◌<◌, ◌≤◌, ℕ, List, [], ◌++◌, ◌∷◌, ◌≡◌, length}
 use Rattle.std.proofs.Common.{append_assoc, append-nil, ◌∙◌, ap, sym, arith}
 use Rattle.yaml_text.specs.declared.Mark.{Mark}
@@ -10,9 +9,9 @@ use Rattle.yaml_scan.specs.Slots.{tokens_of}
 use Rattle.theorems.specs.Accepted.{Accepts}
 use Rattle.yaml_stream.specs.Stream.{Heard, Next, refusal}
 use Rattle.yaml_stream.specs.Tale.{at_end, built, closes_as, outcome_told, told}
-use Rattle.yaml_stream.proofs.Given.{Ends, Own, by_own, by_rule, whole}
+use Rattle.yaml_stream.specs.Given.{Ends, Own, by_own, by_rule, whole}
 use Rattle.yaml_stream.proofs.Answers.{accepted_ends, comes_to_end}
-use Rattle.yaml_stream.proofs.Numbers.{closes_by, own_some, rule_some}
+use Rattle.yaml_stream.specs.Numbers.{closes_by, own_some, rule_some}
 use Rattle.yaml_job.specs.declared.Closing.TheVariants.{NotDone}
 use Rattle.yaml_job.specs.declared.JobAnswer.TheVariants.{Closed}
 use Rattle.yaml_job.specs.declared.Met.{Met}
@@ -20,10 +19,12 @@ use Rattle.yaml_job.specs.declared.ShapePlace.{ShapePlace}
 use Rattle.yaml_job.specs.declared.ShapePlace.TheVariants.{AtStart}
 use Rattle.yaml_job.specs.Job.{Talk, follow, job, none_met}
 use Rattle.yaml_job.specs.Shape.{Shape}
-use Rattle.yaml_job.proofs.JobReads.{End, ends_done, stops, unread}
-use Rattle.yaml_job.proofs.Calls.{answer_of, judge}
-use Rattle.yaml_job.proofs.Done.{heard_of, job_says, talk_last}
-use Rattle.yaml_job.proofs.Refused.{Stops, Why, by_scanner, by_token, missing, no_job, no_number, out_of_place, refused_why, stops_so, unknown}
+use Rattle.yaml_job.specs.Reads.{End, ends_done, stops, unread}
+use Rattle.yaml_job.specs.Calls.{answer_of, judge}
+use Rattle.yaml_job.specs.Done.{heard_of, talk_last}
+use Rattle.yaml_job.proofs.Done.{job_says}
+use Rattle.yaml_job.specs.Refused.{Stops, Why, by_scanner, by_token, missing, no_number, out_of_place, stops_so, unknown}
+use Rattle.yaml_job.proofs.Refused.{no_job, refused_why}
 
 answer_not : (k n r : ℕ) (m : Mark) (e : End) → answer_of k e ≡ Closed (NotDone r m n) → e ≡ stops r m
 answer_not k n r m ends_done f = let z : ◌≡◌ {A = ℕ} 0 1 = cc in absurd (omega arith)
@@ -67,8 +68,6 @@ shape_refused limits bytes words room k r n m ts vs a s b e =
         let p : x ≡ r = cc in
         let q : j ≡ m = cc in
         rw q at (rw p at o)
-
--- the number
 
 why_some : {p : ShapePlace} {m : Met} {t : Token} {r : ℕ} → Why p m t r → 1 ≤ r
 why_some (missing k e) = omega arith

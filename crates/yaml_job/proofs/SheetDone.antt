@@ -1,5 +1,4 @@
--- The job of JobSheet's sheet is done, with all its seeds, however many: an instance of BlockSheet. Its list of tokens; that this is of the shape, in block form, with the list
--- on its key's line.
+-- Theorems about specs/SheetDone, and what rests on them.
 use Rattle.std.specs.Prelude.{◌*◌, ◌+◌, ◌/◌, ◌<◌, ◌≤◌, suc, zero, ℕ, false, true, List, [], ◌++◌, ◌∷◌, map, ◌≡◌, refl, eqb, length, replicate}
 use Rattle.std.proofs.Common.{append_assoc, append-nil, ◌∙◌, ap, sym, arith, le-ltb}
 use Rattle.yaml_text.specs.declared.Mark.{Mark}
@@ -14,31 +13,27 @@ use Rattle.yaml_scan.specs.Document.{forced}
 use Rattle.yaml_scan.specs.Scan.{Outcome, after_events, outcome, run, scan, scanned, standard}
 use Rattle.yaml_scan.specs.Open.{all_open}
 use Rattle.yaml_scan.specs.Slots.{Slot, flat, note, slot, slots, tokens_of}
-use Rattle.yaml_scan.proofs.SlotLaws.{flat_append}
+use Rattle.yaml_scan.specs.SlotLaws.{flat_append}
 use Rattle.theorems.specs.Accepted.{Accepts}
 use Rattle.yaml_stream.specs.Stream.{least_records}
-use Rattle.yaml_stream.proofs.KeysNear.{run_from, run_on}
+use Rattle.yaml_stream.specs.KeysNear.{run_from, run_on}
 use Rattle.yaml_stream.specs.Orderly.{part, scalar_part}
-use Rattle.yaml_stream.proofs.SeedList.{before_entries, bracket_says, bracket_step, close_step, close_token, colon_mark, colon_says, colon_step, comma_step, comma_token, end_step, entries, last_entry, next_entry, one_given, open_mark, seed_step, seed_token, simple_decode, spans}
+use Rattle.yaml_stream.specs.SeedList.{before_entries, bracket_says, bracket_step, close_step, close_token, colon_mark, colon_says, colon_step, comma_step, comma_token, end_step, entries, last_entry, next_entry, one_given, open_mark, seed_step, seed_token, simple_decode, spans}
 use Rattle.yaml_job.specs.declared.Field.{Field}
 use Rattle.yaml_job.specs.declared.Field.TheVariants.{Panel, Sample, Seeds}
 use Rattle.yaml_job.specs.Job.{follow, job, kind_number, spelled}
 use Rattle.yaml_job.specs.Open.{job_open}
 use Rattle.yaml_job.specs.Shape.{Entries, Shape, digit, field, next_field, next_seed, no_field, no_seed, panel_text, sample_text, seed_list, shape, times}
-use Rattle.yaml_job.proofs.JobReads.{ends_done}
-use Rattle.yaml_job.proofs.Calls.{talk_of}
+use Rattle.yaml_job.specs.Reads.{ends_done}
+use Rattle.yaml_job.specs.Calls.{talk_of}
 use Rattle.yaml_job.specs.BlockSheet.{InBlock, OnNameLine}
 use Rattle.yaml_job.proofs.BlockSheet.{block_sheet_done}
 use Rattle.yaml_job.specs.JobSheet.{Scans, at_end, before_list, first_entry, heading, job_sheet, sheet_simple, then_scans, third_line}
-
--- the run from a state to the text's end
 
 scans_run : {s : State} {es : List Event} → Scans s es → run_from standard s ≡ scanned es
 unfolding run
 scans_run (at_end e) = rw (e, run)
 scans_run {s} (then_scans {t = t} {es = es} e h) = run_on standard s t es e ∙ ap (λ (o : Outcome). after_events es o) (scans_run h)
-
--- the list's tokens behind its bracket, and the text's end
 
 abbrev list_tokens : ℕ → Mark → List Token
 list_tokens zero m = close_token m ∷ empty_token BlockEnd (forced (along m)) ∷ empty_token StreamEnd (forced (along m)) ∷ []
@@ -52,8 +47,6 @@ list_scans zero m n h = then_scans (close_step m n h) (at_end (end_step (along m
 list_scans (suc k) m n h =
     then_scans (seed_step k m n h)
     (then_scans (comma_step k (along m) (n + 0) m (one_given n) (omega arith)) (list_scans k (next_entry m) (one_given (one_given n)) (omega arith)))
-
--- the whole text
 
 -- up to the list's bracket
 abbrev front : List Event
@@ -70,8 +63,6 @@ sheet_scans k b =
     rw (le-ltb standard.bytes (length (job_sheet k)) b, simple_decode origin (job_sheet k) (sheet_simple k), outcome)
     (ap (λ (o : Outcome). after_events (put (empty_token StreamStart origin) ∷ []) o) s)
 
--- its tokens
-
 -- events that only put: their tokens stand behind
 tokens_puts : (xs : List Slot) (ts : List Token) → flat (slots xs (puts_of ts)) ≡ flat xs ++ ts
 unfolding slots flat
@@ -84,8 +75,6 @@ sheet_tokens k = tokens_of front ++ list_tokens k first_entry
 sheet_accepted : (k : ℕ) → length (job_sheet k) ≤ standard.bytes → Accepts standard (job_sheet k) (sheet_tokens k)
 unfolding slots note
 sheet_accepted k b = record { events = sheet_events k; accepted = sheet_scans k b; list = sym (tokens_puts (slots [] front) (list_tokens k first_entry)) }
-
--- they are of the shape
 
 seeds_in : (k : ℕ) (m : Mark) → Entries (list_tokens k m) (replicate k 1) (list_tokens 0 (last_entry k m))
 unfolding all_open
@@ -106,8 +95,6 @@ sheet_shape k =
     let sample = field refl (Plain, spelled Sample, refl, refl) refl (sample_text (Plain, 'a' ∷ [], refl)) in
     rw (sym (append-nil {A = ℕ} (replicate k 1))) (shape refl refl (next_field sample (next_field panel (next_field seeds no_field))) refl refl each_once)
 
--- in block form, with the list on its key's line
-
 sheet_in_block : (k : ℕ) → InBlock (sheet_tokens k)
 unfolding all_open
 sheet_in_block k = refl
@@ -127,8 +114,6 @@ unfolding all_open job_open part scalar_part
 sheet_lines k =
     past refl (past refl (past refl (past refl (past refl (past refl (past refl (past refl (past refl (past refl (past refl
     ((λ _. (refl, refl)), list_lines k first_entry (spans Value (colon_mark 19 3) (along (colon_mark 19 3))) (spans FlowSequenceStart (open_mark 19 3) (along (open_mark 19 3))))))))))))))
-
--- how long they are
 
 sheet_length : (k : ℕ) → length (job_sheet k) ≡ 28 + 3 * k
 unfolding job_open

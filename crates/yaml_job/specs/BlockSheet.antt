@@ -1,7 +1,7 @@
--- A sheet in block form, with its list on the line on which the list's name ends. That it never meets 51, whatever its length, and that its job is done, is proved
--- in proofs/BlockSheet.
+-- A sheet in block form, with its list on the line on which the list's name ends, never meets 51, whatever its length, and its job is done. Behind each scalar stands
+-- a ',', a ':' or a Key; but behind the last seed and the last text, where few tokens are left. So its tokens are orderly (Orderly in yaml_stream).
 use Rattle.std.specs.Prelude.{ℕ, List, [], ◌∷◌, ◌≡◌}
-use Rattle.yaml_lexeme.specs.Token.{BlockEnd, BlockMappingStart, FlowSequenceStart, StreamEnd, Token}
+use Rattle.yaml_lexeme.specs.Token.{BlockMappingStart, FlowSequenceStart, Token}
 use Rattle.yaml_stream.specs.Orderly.{line_scalar, part_of}
 use Rattle.yaml_job.specs.Shape.{Is}
 
@@ -25,3 +25,5 @@ OnNameLine (p ∷ ts) = NamesNear p ts × OnNameLine ts
 -- behind the last seed: ']', two fields of four tokens each, BlockEnd and StreamEnd
 abbrev pub most_behind : ℕ
 most_behind = 11
+
+-- the sheet's tokens are orderly

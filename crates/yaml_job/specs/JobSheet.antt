@@ -12,7 +12,7 @@ use Rattle.yaml_scan.specs.declared.Candidate.TheVariants.{Possible}
 use Rattle.yaml_scan.specs.State.{Event, News, State, ends_with, goes_on, put, put_before}
 use Rattle.yaml_scan.specs.Scan.{begin, standard, step}
 use Rattle.yaml_scan.specs.Open.{all_open}
-use Rattle.yaml_stream.proofs.SeedList.{entries, entries_simple, in_line, mapping, next_events, next_state, open_mark, simple, spans}
+use Rattle.yaml_stream.specs.SeedList.{entries, entries_simple, in_line, mapping, next_events, next_state, open_mark, simple, spans}
 use Rattle.yaml_job.specs.declared.Field.TheVariants.{Panel, Sample, Seeds}
 use Rattle.yaml_job.specs.Job.{spelled}
 use Rattle.yaml_job.specs.Open.{job_open}

@@ -1,5 +1,14 @@
 pub mod Job
 pub mod Open
 pub mod Shape
+pub mod Seen
+pub mod Reads
+pub mod Fits
+pub mod Calls
+pub mod Done
+pub mod Exactly
+pub mod Refused
+pub mod Handed
+pub mod Examples
 pub mod BlockSheet
 pub mod JobSheet

@@ -1,6 +1,4 @@
 pub mod BlockFits
-pub mod BlockSizes
 pub mod EscapeFits
 pub mod EscapeSizes
 pub mod QuotedSizes
-pub mod TagSizes

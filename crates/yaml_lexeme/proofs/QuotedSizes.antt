@@ -1,4 +1,4 @@
--- Quoted scalars are paid (as Sizes has it): blanks and breaks that are kept back were paid where they were taken.
+-- Theorems about specs/QuotedSizes, and what rests on them.
 use Rattle.std.specs.Prelude.{◌*◌, ◌+◌, ◌≤◌, suc, zero, ℕ, Bool, ◌&&◌, false, not, true, List, [], ◌∷◌, refl, ltb, drop, length}
 use Rattle.std.proofs.Common.{arith}
 use Rattle.std.proofs.Math.Dec.{eqb}
@@ -15,8 +15,10 @@ use Rattle.yaml_lexeme.specs.Role.{role}
 use Rattle.yaml_lexeme.specs.Escape.{Escaped, escape}
 use Rattle.yaml_lexeme.specs.Quoted.{Mode, Quote, QuotedTurn, after_turn, blanks_of, broken, chars_of, closes, escape_turn, folded, folds_to, goes, joined, quote_char, quoted_blank, quoted_break, quoted_char, quoted_line, quoted_run, quoted_text, quoted_turn, scan_flow_scalar, wrong_quote}
 use Rattle.yaml_lexeme.specs.Fits.{blanks_and_comment_fit}
-use Rattle.yaml_lexeme.proofs.EscapeFits.{Took, escape_fit}
-use Rattle.yaml_lexeme.proofs.EscapeSizes.{PaysEscape, escape_pays}
+use Rattle.yaml_lexeme.specs.EscapeFits.{Took}
+use Rattle.yaml_lexeme.proofs.EscapeFits.{escape_fit}
+use Rattle.yaml_lexeme.specs.EscapeSizes.{PaysEscape}
+use Rattle.yaml_lexeme.proofs.EscapeSizes.{escape_pays}
 use Rattle.yaml_lexeme.specs.Sizes.{Lexed, PaysRun, all_before, drop_less, fold_size, size_append, size_cons, size_drop, size_feeds, size_fits, size_nil, size_one, width_some}
 
 -- the bytes that were paid for what is kept back
@@ -61,7 +63,6 @@ break_pays c d cs b =
     by_pick (PaysTurn (owed b) c cs) (half_break c d) _ _ (omega (arith, size_nil, size_cons c cs))
     (omega (arith, size_nil, size_cons c cs, (width_some c).0, broken_paid b))
 
--- a character, behind the text t
 module _ (k : ℕ) (t : List ℕ) (paid : size t ≤ k) (c : ℕ) (cs : List ℕ) where
   escape_turn_pays : (r : Read Escaped) → All Escaped (Took (length cs)) r → All Escaped PaysEscape r → PaysTurn k c cs (escape_turn t r)
   escape_turn_pays (got e) (holds f) (holds h) =

@@ -9,7 +9,7 @@ use Rattle.yaml_text.specs.Mark.{Place, Run, along, before_run, here, look, noth
 use Rattle.yaml_text.specs.Refusal.{Read, before_read}
 use Rattle.yaml_text.specs.Test.{by_pick, by_test}
 use Rattle.yaml_text.specs.All.{All, all_bind, all_need, all_weak, holds, not_read}
-use Rattle.yaml_text.proofs.PlaceLaws.{FurtherOn, fits_along, fits_over, fits_refl, fits_trans}
+use Rattle.yaml_text.specs.PlaceLaws.{FurtherOn, fits_along, fits_over, fits_refl, fits_trans}
 use Rattle.yaml_lexeme.specs.Token.{Lexeme}
 use Rattle.yaml_lexeme.specs.Gap.{Gap, GapTurn, after_gap_turn, blanks, blanks_and_comment, comment_after, gap_turn, pass, skip_gap, stop, to_break, wrong}
 use Rattle.yaml_lexeme.specs.Plain.{glue, plain_stops, plain_text, scan_plain_scalar}

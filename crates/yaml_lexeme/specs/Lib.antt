@@ -13,7 +13,12 @@ pub mod Directive
 pub mod RecordLaws
 pub mod Turns
 pub mod Fits
+pub mod BlockFits
 pub mod EscapeTable
+pub mod EscapeFits
 pub mod TagFits
 pub mod Role
 pub mod Sizes
+pub mod EscapeSizes
+pub mod BlockSizes
+pub mod TagSizes

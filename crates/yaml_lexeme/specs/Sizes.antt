@@ -10,7 +10,7 @@ use Rattle.yaml_text.specs.Mark.{Place, Run, along, before_run, here, look, noth
 use Rattle.yaml_text.specs.Refusal.{Read, before_read}
 use Rattle.yaml_text.specs.Test.{by_pick, by_test}
 use Rattle.yaml_text.specs.All.{All, holds, not_read}
-use Rattle.yaml_text.proofs.PlaceLaws.{FurtherOn, left}
+use Rattle.yaml_text.specs.PlaceLaws.{FurtherOn, left}
 use Rattle.yaml_lexeme.specs.Token.{Lexeme, kind_bytes, size, token_bytes}
 use Rattle.yaml_lexeme.specs.Role.{neither, role}
 use Rattle.yaml_lexeme.specs.Fold.{fold}

@@ -7,7 +7,7 @@ use Rattle.yaml_text.specs.Class.{is_alpha, is_anchor, is_blank, is_digit, is_no
 use Rattle.yaml_text.specs.Mark.{Place, Run, along, here, look, skip_by, run_of}
 use Rattle.yaml_text.specs.Test.{by_test, on_pick}
 use Rattle.yaml_text.specs.All.{All, all_any, all_bind, all_need, all_test, all_weak, holds, not_read}
-use Rattle.yaml_text.proofs.PlaceLaws.{FurtherOn, fits_along, fits_refl, fits_trans, left, skip_break_fit, skip_fit, skip_on, there, run_of_fit}
+use Rattle.yaml_text.specs.PlaceLaws.{FurtherOn, fits_along, fits_refl, fits_trans, left, skip_break_fit, skip_fit, skip_on, there, run_of_fit}
 use Rattle.yaml_lexeme.specs.Token.{Lexeme}
 use Rattle.yaml_lexeme.specs.Tag.{Texts, handled, percent, primary, scan_tag, tag_texts, uri_run, verbatim}
 use Rattle.yaml_lexeme.specs.Anchor.{scan_anchor}

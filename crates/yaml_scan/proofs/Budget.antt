@@ -1,38 +1,19 @@
--- The whole run: its budget is never spent, a larger one changes nothing, every text gets a verdict, and what a scan says is placed.
+-- Theorems about specs/Budget, and what rests on them.
 use Rattle.std.specs.Prelude.{◌/◌, ◌<◌, suc, zero, ℕ, List, [], ◌∷◌, ◌≡◌, refl, ltb, length}
 use Rattle.std.proofs.Common.{◌∙◌, ap, le_refl, not-suc-le-zero, arith, ltb-false, ltb-true}
-use Rattle.yaml_text.specs.declared.Mark.{Mark}
 use Rattle.yaml_text.specs.Mark.{origin}
-use Rattle.yaml_text.specs.Refusal.{Read, got, refused}
 use Rattle.yaml_text.specs.Test.{by_test}
-use Rattle.yaml_text.specs.All.{All, holds, not_read}
-use Rattle.yaml_text.proofs.DecodeLaws.{Decodes, NoNul, decode_is}
-use Rattle.yaml_text.proofs.PlaceLaws.{left}
+use Rattle.yaml_text.specs.DecodeLaws.{NoNul}
+use Rattle.yaml_text.specs.PlaceLaws.{left}
 use Rattle.yaml_lexeme.specs.Token.{StreamStart, Token, empty_token, texts}
 use Rattle.yaml_lexeme.specs.Record.{record_words}
 use Rattle.yaml_scan.specs.declared.Limits.{Limits}
-use Rattle.yaml_scan.specs.State.{Event, News, State, ends_with, goes_on, put}
+use Rattle.yaml_scan.specs.State.{Event, State, put}
 use Rattle.yaml_scan.specs.Slots.{tokens_of}
-use Rattle.yaml_scan.specs.Scan.{Outcome, Verdict, accepted, after_events, after_step, answer, answer_for, begin, lent, no_verdict, outcome, refusal, run, scan, scanned, spent, stopped}
-use Rattle.yaml_scan.specs.Candidates.{GivenToken, Placed, Sound, fresh, given, placed_append, ready}
+use Rattle.yaml_scan.specs.Scan.{Outcome, after_events, after_step, answer, answer_for, begin, lent, outcome, run, scan, scanned, spent, stopped}
+use Rattle.yaml_scan.specs.Candidates.{GivenToken, Placed, Sound, fresh, given, placed_append}
 use Rattle.yaml_scan.proofs.Runs.{step_news}
-
--- a case by what a step answers
-pub on_news : {P : News → Type 0} {r : Read News} (Q : Read News → Type 0) → All News P r → ((es : List Event) (s : State) → P (goes_on es s) → Q (got (goes_on es s)))
-    → ((es : List Event) → P (ends_with es) → Q (got (ends_with es))) → ((n : ℕ) (m : Mark) → Q (refused n m)) → Q r
-on_news {P} Q (holds {a = w} h) f g k = by_news w h
-  where
-    by_news : (w : News) → P w → Q (got w)
-    by_news (goes_on es s) i = f es s i
-    by_news (ends_with es) i = g es i
-on_news Q (not_read {n = n} {m = m}) f g k = k n m
-
--- the budget is enough
-
-abbrev pub Ends : Outcome → Type 0
-Ends (scanned es) = Unit {0}
-Ends (stopped n m) = Unit {0}
-Ends spent = ⊥
+use Rattle.yaml_scan.specs.Budget.{on_news, Ends, outcome_by, Decided, PlacedIn, begin_sound}
 
 after_events_end : (es : List Event) (o : Outcome) → Ends o → Ends (after_events es o)
 after_events_end es (scanned fs) h = tt
@@ -67,28 +48,8 @@ pub scan_ends : (limits : Limits) (cs : List ℕ) → Ends (scan limits cs)
 unfolding scan
 scan_ends limits cs = after_events_end (put (empty_token StreamStart origin) ∷ []) (run limits (suc (length cs)) (begin cs)) (run_ends limits (suc (length cs)) (begin cs) (le_refl _))
 
--- a text is scanned, or refused before
-pub outcome_by : (Q : Outcome → Type 0) (limits : Limits) (bytes : List ℕ) → ((cs : List ℕ) → Decodes 0 bytes cs → Q (scan limits cs))
-    → ((n : ℕ) (m : Mark) → Q (stopped n m)) → Q (outcome limits bytes)
-unfolding outcome
-outcome_by Q limits bytes f g =
-    by_test (ltb limits.bytes (length bytes))
-    (λ e. rw (e, outcome) (g 1 origin))
-    (λ e. rw (e, outcome) (by_decode (decode_is 0 origin bytes)))
-  where
-    by_decode : {r : Read (List ℕ)} → All (List ℕ) (Decodes 0 bytes) r → Q (elim r [ got cs ↦ scan limits cs | refused n m ↦ stopped n m ])
-    by_decode (holds {a = cs} d) = f cs d
-    by_decode (not_read {n = n} {m = m}) = g n m
-
 pub outcome_ends : (limits : Limits) (bytes : List ℕ) → Ends (outcome limits bytes)
 outcome_ends limits bytes = outcome_by Ends limits bytes (λ cs _. scan_ends limits cs) (λ _ _. tt)
-
--- so no answer is left without a verdict
-
-abbrev pub Decided : Verdict → Type 0
-Decided (accepted t d) = Unit {0}
-Decided (refusal n m t d) = Unit {0}
-Decided no_verdict = ⊥
 
 lent_decided : (ts : List Token) (w b : ℕ) → Decided (lent ts w b).verdict
 unfolding lent
@@ -107,13 +68,6 @@ pub answer_decided : (limits : Limits) (bytes : List ℕ) (words_room bytes_room
 unfolding answer
 answer_decided limits bytes w b = outcome_decided (outcome limits bytes) w b (outcome_ends limits bytes)
 
--- what a scan says is placed
-
-abbrev pub PlacedIn : List GivenToken → Outcome → Type 0
-PlacedIn gs (scanned es) = Placed gs es
-PlacedIn gs (stopped n m) = Unit {0}
-PlacedIn gs spent = Unit {0}
-
 after_events_placed : (gs : List GivenToken) (es : List Event) (o : Outcome) → Placed gs es → PlacedIn (given gs es) o → PlacedIn gs (after_events es o)
 after_events_placed gs es (scanned fs) h k = placed_append gs es fs h k
 after_events_placed gs es (stopped n m) h k = tt
@@ -126,10 +80,6 @@ run_placed limits (suc k) gs s h =
     on_news (λ r. PlacedIn gs (after_step r (λ t. run limits k t))) (step_news gs limits s)
     (λ es t i. let j = i.sound h in after_events_placed gs es (run limits k t) j.0 (run_placed limits k (given gs es) t j.1))
     (λ es i. i h) (λ _ _. tt)
-
--- StreamStart was given
-pub begin_sound : (cs : List ℕ) → NoNul cs → Sound (fresh origin ∷ []) (begin cs)
-begin_sound cs h = ready (record { counted = refl; levelled = refl; known = (tt, tt); ordered = tt; no_nul = h })
 
 pub scan_placed : (limits : Limits) (cs : List ℕ) → NoNul cs → PlacedIn [] (scan limits cs)
 unfolding scan given Placed

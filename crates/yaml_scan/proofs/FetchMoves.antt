@@ -1,5 +1,5 @@
--- Each fetch is a move (Moves).
-use Rattle.std.specs.Prelude.{◌+◌, ◌≤◌, ℕ, Bool, ◌&&◌, ◌||◌, false, not, true, List, [], ◌++◌, ◌∷◌, ◌≡◌, refl, drop, length}
+-- Theorems about specs/FetchMoves, and what rests on them.
+use Rattle.std.specs.Prelude.{◌+◌, ◌≤◌, ℕ, Bool, ◌&&◌, ◌||◌, false, not, true, List, [], ◌∷◌, ◌≡◌, refl, drop, length}
 use Rattle.std.proofs.Common.{◌∙◌, ap, sym, arith, get_or-drop}
 use Rattle.std.proofs.lemmas.Bool.{not-true}
 use Rattle.yaml_text.specs.declared.Mark.{Mark}
@@ -9,37 +9,36 @@ use Rattle.yaml_text.specs.Mark.{Place, edge_of, look, skip_by}
 use Rattle.yaml_text.specs.Refusal.{got}
 use Rattle.yaml_text.specs.Test.{both_true, by_pick, true_false}
 use Rattle.yaml_text.specs.All.{All, all_bind, all_need, all_test, holds, not_read}
-use Rattle.yaml_text.proofs.PlaceLaws.{FurtherOn, left}
-use Rattle.yaml_lexeme.specs.Token.{BlockEntry, ByteOrderMark, DocumentEnd, DocumentStart, FlowEntry, FlowMappingEnd, FlowMappingStart, FlowSequenceEnd, FlowSequenceStart, Key, Kind, Lexeme, StreamEnd, Token, Value, empty_token, kind_bytes, size}
+use Rattle.yaml_text.specs.PlaceLaws.{FurtherOn, left}
+use Rattle.yaml_lexeme.specs.Token.{BlockEntry, ByteOrderMark, DocumentEnd, DocumentStart, FlowEntry, FlowMappingEnd, FlowMappingStart, FlowSequenceEnd, FlowSequenceStart, Key, Kind, Lexeme, Token, Value, kind_bytes, size}
 use Rattle.yaml_lexeme.specs.Fits.{blanks_and_comment_fit}
 use Rattle.yaml_lexeme.specs.Role.{ends, neither, role, starts}
 use Rattle.yaml_lexeme.specs.Sizes.{Pays, drop_less, plain_lexed, size_fits}
 use Rattle.yaml_lexeme.proofs.QuotedSizes.{flow_scalar_lexed}
-use Rattle.yaml_lexeme.proofs.BlockSizes.{block_scalar_lexed}
-use Rattle.yaml_lexeme.proofs.TagSizes.{anchor_lexed, directive_lexed, tag_lexed}
+use Rattle.yaml_lexeme.specs.BlockSizes.{block_scalar_lexed}
+use Rattle.yaml_lexeme.specs.TagSizes.{anchor_lexed, directive_lexed, tag_lexed}
 use Rattle.yaml_scan.specs.declared.Candidate.{Candidate}
 use Rattle.yaml_scan.specs.declared.Candidate.TheVariants.{Absent, Possible}
 use Rattle.yaml_scan.specs.declared.Level.{Level}
 use Rattle.yaml_scan.specs.declared.Limits.{Limits}
 use Rattle.yaml_scan.specs.Indent.{drop_non_ending}
 use Rattle.yaml_scan.specs.IndentLaws.{drop_non_ending_same, roll_at_rolls, same_refl}
-use Rattle.yaml_scan.specs.State.{Event, News, State, block_ends, ends_with, goes_on, in_flow, mark_of, on_level, put, puts, remove_key, rest_of, save_key, unroll_to, with_keys}
+use Rattle.yaml_scan.specs.State.{Event, News, State, goes_on, in_flow, mark_of, on_level, puts, remove_key, rest_of, save_key, with_keys}
 use Rattle.yaml_scan.specs.Keys.{top_key}
 use Rattle.yaml_scan.specs.Bracket.{fetch_flow_collection_end, fetch_flow_collection_start, fetch_flow_entry, scan_bracket}
 use Rattle.yaml_scan.specs.Value.{begins_pair, colon_seen, fetch_block_entry, fetch_key, takes_colon, value_by, value_with, value_without}
 use Rattle.yaml_scan.specs.declared.Choice.{Choice}
 use Rattle.yaml_scan.specs.declared.Choice.TheVariants.{AtAnchor, AtBlock, AtByteOrderMark, AtColon, AtComma, AtDash, AtDirective, AtEnd, AtMarker, AtPlain, AtQuestion, AtQuoted, AtTag, BelowIndent, Closes, Opens, Stray}
-use Rattle.yaml_scan.specs.Document.{fetch_byte_order_mark, fetch_directive, fetch_document_indicator, fetch_stream_end, forced, leave_blocks}
+use Rattle.yaml_scan.specs.Document.{fetch_byte_order_mark, fetch_directive, fetch_document_indicator, leave_blocks}
 use Rattle.yaml_scan.specs.Fetch.{fetch, fetch_anchor, fetch_block_scalar, fetch_flow_scalar, fetch_plain_scalar, fetch_tag}
-use Rattle.yaml_scan.proofs.Fetches.{after_marker_fit, stack_bracket_is}
-use Rattle.yaml_scan.proofs.ChoiceLaws.{ChoiceSays}
+use Rattle.yaml_scan.specs.Fetches.{after_marker_fit, stack_bracket_is}
+use Rattle.yaml_scan.specs.ChoiceLaws.{ChoiceSays}
 use Rattle.yaml_scan.specs.Moves.{Enters, Move, Moves, Paid, begins, bracket, closes, leaves, opens, parts, tells, uses}
+use Rattle.yaml_scan.specs.FetchMoves.{stream_end_moves}
 
 moved : {s : State} {es : List Event} {u : State} (t : Token) → Paid s t u.place → Move s t u.place es u.indents u.keys u.levels
     → u.count ≡ s.count + puts es → All News (Moves s) (got (goes_on es u))
 moved {s} {es} {u} t p m c = let k : Moves s (goes_on es u) = (t, p, m, c) in holds k
-
--- scalars, tags and anchors
 
 -- saving a candidate changes nothing else
 save_key_is : (s : State) → save_key s ≡ with_keys (save_key s).keys s
@@ -73,8 +72,6 @@ anchor_moves : (alias : Bool) (s : State) → All News (Moves s) (fetch_anchor a
 unfolding fetch_anchor
 anchor_moves alias s = all_bind _ (anchor_lexed alias s.place) (λ l k. rw (save_key_is s) (moved _ k.paid (tells k.neutral (same_refl _)) refl))
 
--- outside every block
-
 directive_moves : (s : State) → in_flow s ≡ false → All News (Moves s) (fetch_directive s)
 unfolding fetch_directive leave_blocks remove_key
 directive_moves s h = all_bind _ (directive_lexed s.place) (λ l k. moved _ k.paid (leaves k.neutral h) refl)
@@ -93,15 +90,6 @@ document_indicator_moves dashes s =
     all_test _ 47 (mark_of s) _ (λ e. all_bind _ (after_marker_fit dashes (skip_by 3 s.place))
     (λ p f. moved _ (silent (pick dashes DocumentStart DocumentEnd) (rest_of s) p.rest (by_pick (λ (k : Kind). kind_bytes k ≡ []) dashes _ _ refl refl) (omega (arith, drop_less 3 (rest_of s), size_fits f)))
     (leaves (by_pick (λ (k : Kind). role k ≡ neither) dashes _ _ refl refl) (not-true (in_flow s) e)) refl))
-
-pub stream_end_moves : (s : State) → All News (Moves s) (fetch_stream_end s)
-unfolding fetch_stream_end
-stream_end_moves s =
-    all_test _ 47 (mark_of s) _ (λ e. all_need _ 41 (forced (mark_of s)) _
-    (let k : Moves s (ends_with (block_ends (unroll_to 0 s).ended (forced (mark_of s)) ++ (put (empty_token StreamEnd (forced (mark_of s))) ∷ []))) =
-    (forced (mark_of s), not-true (in_flow s) e, refl) in holds k))
-
--- brackets and ','
 
 bracket_is : (k : Kind) (p : Place) → All Lexeme (λ l. (l.token.kind ≡ k) × FurtherOn (skip_by 1 p) l.place) (scan_bracket k p)
 unfolding scan_bracket
@@ -138,8 +126,6 @@ unfolding fetch_flow_entry remove_key kind_bytes role
 flow_entry_moves s =
     all_bind _ (bracket_is FlowEntry s.place)
     (λ l f. moved _ (bracket_silent s FlowEntry l refl f) (parts (mark_of s) (ap role f.0)) refl)
-
--- '-', '?' and ':'
 
 -- what stands behind the one character
 next_is : (s : State) → is_blank_or_breakz (peek (rest_of s) 1) ≡ true → is_blank_or_breakz (look (skip_by 1 s.place)) ≡ true

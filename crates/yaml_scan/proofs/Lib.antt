@@ -1,10 +1,9 @@
-pub mod Budget
-pub mod ChoiceLaws
-pub mod FetchMoves
 pub mod Fetches
-pub mod Removal
-pub mod Required
+pub mod ChoiceLaws
 pub mod Runs
+pub mod Required
+pub mod Budget
 pub mod SlotLaws
+pub mod FetchMoves
 pub mod Steps
-pub mod Removes
+pub mod Removal

@@ -1,17 +1,16 @@
--- Where a required key may stand. In flow none is required. At level 0 one stands before the current mark; as long as its line goes on,
--- no simple key is allowed, or the text is over.
-use Rattle.std.specs.Prelude.{◌<◌, ◌≤◌, Bool, ◌&&◌, ◌||◌, false, not, true, List, [], ◌∷◌, ◌⊎◌, ◌≡◌, refl, ltb, drop}
+-- Theorems about specs/Required, and what rests on them.
+use Rattle.std.specs.Prelude.{◌<◌, Bool, ◌&&◌, ◌||◌, false, not, true, List, [], ◌∷◌, ◌⊎◌, ◌≡◌, refl, drop}
 use Rattle.std.proofs.Math.Logic.{inl}
-use Rattle.std.proofs.Common.{inr, ◌∙◌, sym, arith, ltb-false, ltb-true}
+use Rattle.std.proofs.Common.{inr, sym, arith}
 use Rattle.yaml_text.specs.declared.Mark.{Mark}
 use Rattle.yaml_text.specs.Mark.{Place, skip_by}
 use Rattle.yaml_text.specs.Refusal.{got}
-use Rattle.yaml_text.specs.Test.{by_test, on_pick, true_false}
+use Rattle.yaml_text.specs.Test.{on_pick, true_false}
 use Rattle.yaml_text.specs.All.{All, all_any, all_bind, all_both, all_need, all_test, holds, not_read}
-use Rattle.yaml_text.proofs.DecodeLaws.{NoNul, no_nul_drop}
-use Rattle.yaml_text.proofs.PlaceLaws.{FurtherOn, fits_no_nul}
+use Rattle.yaml_text.specs.DecodeLaws.{NoNul, no_nul_drop}
+use Rattle.yaml_text.specs.PlaceLaws.{FurtherOn, fits_no_nul}
 use Rattle.yaml_lexeme.specs.Token.{FlowEntry}
-use Rattle.yaml_lexeme.specs.Fits.{flow_scalar_fit, plain_fit, skip_gap_fit}
+use Rattle.yaml_lexeme.specs.Fits.{flow_scalar_fit, plain_fit}
 use Rattle.yaml_lexeme.proofs.BlockFits.{block_scalar_fit}
 use Rattle.yaml_lexeme.specs.TagFits.{anchor_fit, tag_fit}
 use Rattle.yaml_lexeme.specs.Directive.{scan_directive}
@@ -23,164 +22,22 @@ use Rattle.yaml_scan.specs.declared.Level.{Level}
 use Rattle.yaml_scan.specs.declared.Limits.{Limits}
 use Rattle.yaml_scan.specs.Indent.{drop_non_ending}
 use Rattle.yaml_scan.specs.Keys.{is_required, set_key, top_key}
-use Rattle.yaml_scan.specs.State.{Event, News, State, allow, at_place, ends_with, goes_on, in_flow, lapse_key, mark_of, on_level, remove_key, rest_of, save_key, with_keys}
+use Rattle.yaml_scan.specs.State.{Event, News, State, goes_on, in_flow, mark_of, on_level, remove_key, save_key}
 use Rattle.yaml_scan.specs.Bracket.{closes_level, fetch_flow_collection_end, fetch_flow_collection_start, fetch_flow_entry, new_level, scan_bracket}
 use Rattle.yaml_scan.specs.Value.{begins_pair, fetch_block_entry, fetch_key, roll_state, value_by, value_with, value_without}
 use Rattle.yaml_scan.specs.Document.{after_marker, fetch_byte_order_mark, fetch_directive, fetch_document_indicator, fetch_stream_end, forced, leave_blocks}
 use Rattle.yaml_scan.specs.Fetch.{fetch, fetch_anchor, fetch_block_scalar, fetch_flow_scalar, fetch_plain_scalar, fetch_tag}
-use Rattle.yaml_scan.specs.Scan.{to_next_token}
 use Rattle.yaml_scan.specs.Candidates.{Over}
-use Rattle.yaml_scan.proofs.Fetches.{behind_first, bracket_fit, save_key_place, stack_bracket_is}
-use Rattle.yaml_scan.proofs.ChoiceLaws.{ChoiceSays}
-use Rattle.yaml_scan.specs.LinesOver.{block_scalar_over, gap_forbids, none_further}
-use Rattle.yaml_scan.proofs.Runs.{lapsed, still_over}
-
--- the candidate stands before the mark
-abbrev pub KeyPassed : Mark → Candidate → Type 0
-KeyPassed m Absent = Unit {0}
-KeyPassed m (Possible required n k) = (k.line ≤ m.line) × (m.line ≡ k.line → k.col < m.col)
-
--- in flow no candidate is required, and that of level 0 stands before the mark
-abbrev pub Held : Mark → List Candidate → List Level → Type 0
-Held m [] ls = Unit {0}
-Held m (k ∷ ks) [] = KeyPassed m k
-Held m (k ∷ ks) (l ∷ ls) = (is_required k ≡ false) × Held m ks ls
-
--- before a token, behind the lapse
-pub record BeforeToken (s : State) : Type 0 where
-  pub held : Held (mark_of s) s.keys s.levels
-  pub waits : in_flow s ≡ false → is_required (top_key s.keys) ≡ true → (0 < (mark_of s).col) × ((s.simple_key_allowed ≡ false) ⊎ (rest_of s ≡ []))
-  pub no_nul : NoNul (rest_of s)
-
--- between two steps
-pub record BetweenSteps (s : State) : Type 0 where
-  pub held : Held (mark_of s) s.keys s.levels
-  pub waits : in_flow s ≡ false → is_required (top_key s.keys) ≡ true → Over (mark_of s) (top_key s.keys) ⊎ ((s.simple_key_allowed ≡ false) ⊎ (rest_of s ≡ []))
-  pub no_nul : NoNul (rest_of s)
-
--- on to a later mark
-
-abbrev Later : Mark → Mark → Type 0
-Later m m' = (m.line ≤ m'.line) × (m'.line ≡ m.line → m.col ≤ m'.col)
-
-later : {p q : Place} → FurtherOn p q → Later p.mark q.mark
-later f = (f.line_on, f.col_on)
-
-passed_on : (m m' : Mark) (k : Candidate) → Later m m' → KeyPassed m k → KeyPassed m' k
-passed_on m m' Absent f h = tt
-passed_on m m' (Possible required n k) f h =
-    (omega (arith, f.0, h.0), λ e. omega (arith, h.1 (omega (arith, f.0, h.0)), f.1 (omega (arith, f.0, h.0))))
-
-held_on : (m m' : Mark) (ks : List Candidate) (ls : List Level) → Later m m' → Held m ks ls → Held m' ks ls
-held_on m m' [] ls f h = tt
-held_on m m' (k ∷ ks) [] f h = passed_on m m' k f h
-held_on m m' (k ∷ ks) (l ∷ ls) f h = (h.0, held_on m m' ks ls f h.1)
-
--- the changes of the candidates
-
-held_drop : (m : Mark) (ks : List Candidate) (l : Level) (ls : List Level) → Held m ks (l ∷ ls) → Held m (drop 1 ks) ls
-held_drop m [] l ls h = tt
-held_drop m (k ∷ ks) l ls h = h.1
-
-pub held_without : (m : Mark) (ks : List Candidate) (ls : List Level) → Held m ks ls → Held m (set_key Absent ks) ls
-unfolding is_required
-held_without m ks [] h = tt
-held_without m ks (l ∷ ls) h = (refl, held_drop m ks l ls h)
-
-held_top : (m : Mark) (ks : List Candidate) (ls : List Level) → Held m ks ls → Held m (set_key (top_key ks) ks) ls
-unfolding top_key is_required
-held_top m [] [] h = tt
-held_top m [] (l ∷ ls) h = (refl, tt)
-held_top m (k ∷ ks) ls h = h
+use Rattle.yaml_scan.specs.Fetches.{behind_first, bracket_fit, save_key_place, stack_bracket_is}
+use Rattle.yaml_scan.specs.ChoiceLaws.{ChoiceSays}
+use Rattle.yaml_scan.specs.LinesOver.{block_scalar_over}
+use Rattle.yaml_scan.specs.Required.{Held, BeforeToken, BetweenSteps, later, held_on, held_drop, held_without, inside, zero_passed, line_over, KeepsBetween}
 
 held_level : (m : Mark) (f : Level → Level) (ks : List Candidate) (ls : List Level) → Held m ks ls → Held m ks (on_level f ls)
 unfolding on_level
 held_level m f ks [] h = h
 held_level m f [] (l ∷ ls) h = tt
 held_level m f (k ∷ ks) (l ∷ ls) h = h
-
--- where the scan is
-abbrev inside : List Level → Bool
-inside ls = elim ls [ [] ↦ false | l ∷ ls ↦ true ]
-
--- at level 0
-zero_passed : (m : Mark) (ks : List Candidate) (ls : List Level) → inside ls ≡ false → Held m ks ls → KeyPassed m (top_key ks)
-unfolding top_key
-zero_passed m [] ls e h = tt
-zero_passed m (k ∷ ks) [] e h = h
-zero_passed m (k ∷ ks) (l ∷ ls) e h = true_false e
-
--- in flow
-pub flow_none : (m : Mark) (ks : List Candidate) (ls : List Level) → inside ls ≡ true → Held m ks ls → is_required (top_key ks) ≡ false
-unfolding top_key is_required
-flow_none m [] ls e h = refl
-flow_none m (k ∷ ks) [] e h = true_false (sym e)
-flow_none m (k ∷ ks) (l ∷ ls) e h = h.0
-
--- a candidate that stands before the mark, on a later line
-line_over : (m m' : Mark) (k : Candidate) → m.line < m'.line → KeyPassed m k → Over m' k
-line_over m m' Absent f h = tt
-line_over m m' (Possible required n k) f h = omega (arith, h.0)
-
--- one whose line is not over: the column is above 0
-above_zero : (m : Mark) (k : Candidate) → is_required k ≡ true → KeyPassed m k → (Over m k → ⊥) → 0 < m.col
-unfolding is_required
-above_zero m Absent r h o = true_false (sym r)
-above_zero m (Possible required n k) r h o =
-    by_test (ltb k.line m.line)
-    (λ e. absurd (o (ltb-true k.line m.line e)))
-    (λ e. omega (arith, h.1 (omega (arith, h.0, ltb-false k.line m.line e))))
-
--- the gap and the lapse
-
-module _ (s : State) (h : BetweenSteps s) (p : Place) (leads a : Bool) (f : FurtherOn s.place p)
-    (forbids : s.simple_key_allowed ≡ false → (a ≡ false) ⊎ ((mark_of s).line < p.mark.line)) where
-  -- the candidate that is left
-  waits_on : in_flow s ≡ false → (Over p.mark (top_key s.keys) → ⊥) → is_required (top_key s.keys) ≡ true
-      → (0 < p.mark.col) × ((a ≡ false) ⊎ (p.rest ≡ []))
-  unfolding in_flow
-  waits_on e o r =
-      let k = zero_passed (mark_of s) s.keys s.levels e h.held in
-      (above_zero p.mark (top_key s.keys) r (passed_on (mark_of s) p.mark (top_key s.keys) (later f) k) o, by_wait k (h.waits e r))
-    where
-      by_line : KeyPassed (mark_of s) (top_key s.keys) → (a ≡ false) ⊎ ((mark_of s).line < p.mark.line) → (a ≡ false) ⊎ (p.rest ≡ [])
-      by_line k (inl z) = inl z
-      by_line k (inr z) = absurd (o (line_over (mark_of s) p.mark (top_key s.keys) z k))
-
-      by_wait : KeyPassed (mark_of s) (top_key s.keys) → Over (mark_of s) (top_key s.keys) ⊎ ((s.simple_key_allowed ≡ false) ⊎ (rest_of s ≡ []))
-          → (a ≡ false) ⊎ (p.rest ≡ [])
-      by_wait k (inl z) = absurd (o (still_over (mark_of s) p.mark (top_key s.keys) f.line_on z))
-      by_wait k (inr (inl z)) = by_line k (forbids z)
-      by_wait k (inr (inr z)) = inr (none_further f z)
-
-  lapse_ahead : All State BeforeToken (lapse_key (at_place p leads (allow a s)))
-  unfolding lapse_key in_flow top_key is_required
-  lapse_ahead =
-      by_test (in_flow s)
-      (λ e. rw (e, lapse_key) (holds (record { held = on; waits = λ z. true_false (sym e ∙ z); no_nul = fits_no_nul f h.no_nul })))
-      (λ e. rw (e, lapse_key) (all_bind _ (lapsed p.mark (top_key s.keys)) (λ c k. holds (by_lapse e c k))))
-    where
-      on : Held p.mark s.keys s.levels
-      on = held_on (mark_of s) p.mark s.keys s.levels (later f) h.held
-
-      by_lapse : in_flow s ≡ false → (c : Candidate) → (c ≡ Absent) ⊎ ((c ≡ top_key s.keys) × (Over p.mark (top_key s.keys) → ⊥))
-          → BeforeToken (with_keys (set_key c s.keys) (at_place p leads (allow a s)))
-      by_lapse e c (inl k) =
-          rw k (record { held = held_without p.mark s.keys s.levels on; waits = λ _ r. true_false (sym r); no_nul = fits_no_nul f h.no_nul })
-      by_lapse e c (inr k) =
-          rw k.0 (record { held = held_top p.mark s.keys s.levels on; waits = λ _ r. waits_on e k.1 r; no_nul = fits_no_nul f h.no_nul })
-
-pub to_next_token_ahead : (s : State) → BetweenSteps s → All State BeforeToken (to_next_token s)
-unfolding to_next_token
-to_next_token_ahead s h =
-    all_bind _ (all_both (skip_gap_fit _ _ _ (mark_of s) (rest_of s)) (gap_forbids _ s.simple_key_allowed _ (mark_of s) (rest_of s)))
-    (λ g k. lapse_ahead s h g.place g.leading_whitespace g.simple_key_allowed k.0 k.1)
-
--- what each fetch keeps
-
-abbrev pub KeepsBetween : State → News → Type 0
-KeepsBetween s (goes_on es t) = FurtherOn (behind_first s.place) t.place → BeforeToken s → BetweenSteps t
-KeepsBetween s (ends_with es) = Unit {0}
 
 kept : {s : State} {es : List Event} {t : State} → (FurtherOn (behind_first s.place) t.place → BeforeToken s → BetweenSteps t) → All News (KeepsBetween s) (got (goes_on es t))
 kept {s} {es} {t} h = let k : KeepsBetween s (goes_on es t) = h in holds k
@@ -248,8 +105,6 @@ block_keeps literal s e =
     by_end : {A B C D : Type 0} → (A → B) → A ⊎ C → B ⊎ (D ⊎ C)
     by_end f (inl x) = inl (f x)
     by_end f (inr x) = inr (inr x)
-
--- brackets
 
 opens_keeps : (limits : Limits) (sequence : Bool) (s : State) → All News (KeepsBetween s) (fetch_flow_collection_start limits sequence s)
 unfolding fetch_flow_collection_start in_flow is_required

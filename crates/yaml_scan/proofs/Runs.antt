@@ -1,51 +1,37 @@
--- What a step and a run keep: each step takes a character or ends the run, and in every state that a run reaches the candidates are known.
-use Rattle.std.specs.Prelude.{◌+◌, ◌<◌, ◌≤◌, suc, zero, ℕ, Bool, false, true, List, [], ◌++◌, ◌∷◌, ◌⊎◌, ◌≡◌, refl, drop, length}
-use Rattle.std.proofs.Common.{inl, inr, ◌∙◌, ap, sym, le_refl, zero-add, arith, lt-ltb}
+-- Theorems about specs/Runs, and what rests on them.
+use Rattle.std.specs.Prelude.{◌+◌, ◌≤◌, ℕ, Bool, true, List, [], ◌∷◌, ◌⊎◌, ◌≡◌, refl, drop, length}
+use Rattle.std.proofs.Common.{inl, inr, ◌∙◌, sym, le_refl, zero-add, arith}
 use Rattle.yaml_text.specs.declared.Mark.{Mark}
-use Rattle.yaml_text.specs.Class.{is_z, peek}
+use Rattle.yaml_text.specs.Class.{is_z}
 use Rattle.yaml_text.specs.Mark.{Place, look, origin}
-use Rattle.yaml_text.specs.Refusal.{got}
 use Rattle.yaml_text.specs.Test.{by_test, true_false}
-use Rattle.yaml_text.specs.All.{All, all_bind, all_got, all_need, all_weak, holds}
-use Rattle.yaml_text.proofs.PlaceLaws.{FurtherOn, fits_left, fits_no_nul, fits_refl, fits_trans, left}
+use Rattle.yaml_text.specs.All.{All, all_bind, all_got, all_weak, holds}
+use Rattle.yaml_text.specs.PlaceLaws.{FurtherOn, fits_left, fits_no_nul, fits_refl, fits_trans, left}
 use Rattle.yaml_lexeme.specs.Fits.{skip_gap_fit}
 use Rattle.yaml_scan.specs.declared.Candidate.{Candidate}
-use Rattle.yaml_scan.specs.declared.Candidate.TheVariants.{Absent, Possible}
+use Rattle.yaml_scan.specs.declared.Candidate.TheVariants.{Absent}
 use Rattle.yaml_scan.specs.declared.Level.{Level}
 use Rattle.yaml_scan.specs.Indent.{Indents}
-use Rattle.yaml_scan.specs.Keys.{lapse, set_key, stale, top_key}
+use Rattle.yaml_scan.specs.Keys.{set_key, top_key}
 use Rattle.yaml_scan.specs.declared.Limits.{Limits}
-use Rattle.yaml_scan.specs.State.{Event, News, State, allow, at_place, block_ends, counting, ends_with, goes_on, in_flow, lapse_key, mark_of, preceded, puts, rest_of, with_indents}
+use Rattle.yaml_scan.specs.State.{Event, News, State, allow, at_place, block_ends, counting, ends_with, goes_on, in_flow, lapse_key, mark_of, preceded, rest_of, with_indents}
 use Rattle.yaml_scan.specs.Choice.{choice}
 use Rattle.yaml_scan.specs.Fetch.{fetch, fetch_next}
 use Rattle.yaml_scan.specs.Scan.{begin, step, to_next_token, unrolled}
 use Rattle.yaml_scan.specs.Candidates.{GivenToken, Over, Placed, Ready, ReadyState, Sound, fall_less, fresh, given, given_append, given_length, late, only_ends, only_placed, placed_append, ready, same_ready, stays_known, without_ready}
-use Rattle.yaml_scan.proofs.Fetches.{Fetched, behind_first, stream_end_news}
-use Rattle.yaml_scan.proofs.ChoiceLaws.{choice_says, fetch_news}
-
--- the gap and the lapse
+use Rattle.yaml_scan.specs.Fetches.{Fetched, behind_first, stream_end_news}
+use Rattle.yaml_scan.specs.ChoiceLaws.{choice_says}
+use Rattle.yaml_scan.proofs.ChoiceLaws.{fetch_news}
+use Rattle.yaml_scan.specs.Runs.{still_over, lapsed, TakesOrEnds, some_left, Stepped, puts_ends, StepsReach, Reached, here, then_step}
 
 move_ready : {gs : List GivenToken} {n : ℕ} {ks : List Candidate} {ls : List Level} {p q : Place} → FurtherOn p q → Ready gs n ks ls p → Ready gs n ks ls q
 move_ready f r = record { counted = r.counted; levelled = r.levelled; known = r.known; ordered = r.ordered; no_nul = fits_no_nul f r.no_nul }
-
-pub still_over : (m m' : Mark) (k : Candidate) → m.line ≤ m'.line → Over m k → Over m' k
-still_over m m' Absent h o = tt
-still_over m m' (Possible required n k) h o = omega arith
 
 -- over a gap the state stays sound
 over_gap : {gs : List GivenToken} (s : State) (p : Place) (leads a : Bool) → FurtherOn s.place p → Sound gs s → Sound gs (at_place p leads (allow a s))
 unfolding in_flow
 over_gap s p leads a f (ready r) = ready (move_ready f r)
 over_gap s p leads a f (late e o r) = late e (still_over (mark_of s) p.mark (top_key s.keys) f.line_on o) (move_ready f r)
-
--- behind the lapse a candidate is gone, or it is the same and its line is not over
-pub lapsed : (m : Mark) (k : Candidate) → All Candidate (λ c. (c ≡ Absent) ⊎ ((c ≡ k) × (Over m k → ⊥))) (lapse m k)
-unfolding lapse stale
-lapsed m Absent = holds (inl refl)
-lapsed m (Possible required n k) =
-    by_test (stale k m)
-    (λ e. rw (e, lapse) (all_need _ 41 m _ (holds (inl refl))))
-    (λ e. rw (e, lapse) (holds (inr (refl, λ o. true_false (rw (lt-ltb k.line m.line o) at e)))))
 
 lapse_key_ready : (gs : List GivenToken) (s : State) → All State (λ t. (t.place ≡ s.place) × (Sound gs s → ReadyState gs t)) (lapse_key s)
 unfolding lapse_key
@@ -71,13 +57,6 @@ to_next_token_ready gs s =
     all_bind _ (skip_gap_fit _ _ _ (mark_of s) (rest_of s))
     (λ g f. all_weak (λ t h. (rw h.0 f, λ k. h.1 (over_gap s g.place g.leading_whitespace g.simple_key_allowed f k))) (lapse_key_ready gs _))
 
--- one token
-
--- it takes a character, or ends the run
-abbrev pub TakesOrEnds : List GivenToken → State → News → Type 0
-TakesOrEnds gs s (goes_on es t) = (left t.place < left s.place) × FurtherOn s.place t.place × (ReadyState gs s → Placed gs es × Sound (given gs es) t)
-TakesOrEnds gs s (ends_with es) = ReadyState gs s → Placed gs es
-
 takes_one : (p : Place) → 1 ≤ left p → FurtherOn p (behind_first p)
 takes_one p h = record { taken = 1; within = h; rest_is = refl; index_is = refl; line_on = le_refl _; col_on = λ _. le_refl _ }
 
@@ -87,35 +66,12 @@ takes_first gs s h (goes_on es t) f =
     (omega (arith, fits_left f.0, fits_left g), fits_trans g f.0, f.1)
 takes_first gs s h (ends_with es) f = f
 
--- where it is not the end, a character is there
-pub some_left : (cs : List ℕ) → is_z (peek cs 0) ≡ false → 1 ≤ length cs
-unfolding is_z
-some_left [] e = true_false e
-some_left (c ∷ cs) e = omega arith
-
 pub next_news : (gs : List GivenToken) (limits : Limits) (s : State) → All News (TakesOrEnds gs s) (fetch_next limits s)
 unfolding choice fetch
 next_news gs limits s =
     by_test (is_z (look s.place))
     (λ e. rw (e, choice) (stream_end_news gs s (λ es k. k)))
     (λ e. all_weak (takes_first gs s (some_left (rest_of s) e)) (fetch_news gs limits (choice s) s (choice_says s)))
-
--- a step
-
--- from the state s, after the tokens gs, on to the state t
-pub record GoesTo (gs : List GivenToken) (s : State) (es : List Event) (t : State) : Type 0 where
-  pub takes : left t.place < left s.place
-  pub onward : FurtherOn s.place t.place
-  pub sound : Sound gs s → Placed gs es × Sound (given gs es) t
-
-abbrev pub Stepped : List GivenToken → State → News → Type 0
-Stepped gs s (goes_on es t) = GoesTo gs s es t
-Stepped gs s (ends_with es) = Sound gs s → Placed gs es
-
-pub puts_ends : (n : ℕ) (m : Mark) → puts (block_ends n m) ≡ n
-unfolding puts
-puts_ends zero m = refl
-puts_ends (suc n) m = ap suc (puts_ends n m)
 
 -- behind the ends of blocks
 ends_ready : {gs : List GivenToken} {c : ℕ} {ks : List Candidate} {ls : List Level} {p : Place} (n : ℕ) (m : Mark) → Ready gs c ks ls p → Ready (given gs (block_ends n m)) (c + n) ks ls p
@@ -149,18 +105,6 @@ step_news gs limits s =
     all_bind _ (to_next_token_ready gs s)
     (λ t h. all_bind _ (next_news (given gs (block_ends (unrolled t).ended (mark_of t))) limits (counting (unrolled t).ended (with_indents (unrolled t).indents t)))
     (λ w k. holds (stepped gs s t (unrolled t).ended (unrolled t).indents h.0 h.1 w k)))
-
--- a run
-
--- t is a state that the steps from s come to, es what they say
-pub data StepsReach (limits : Limits) (s : State) : List Event → State → Type 0 where
-  here : StepsReach limits s [] s
-  then_step : {es fs : List Event} {t u : State} → StepsReach limits s es t → step limits t ≡ got (goes_on fs u) → StepsReach limits s (es ++ fs) u
-
-pub record Reached (gs : List GivenToken) (s : State) (es : List Event) (t : State) : Type 0 where
-  pub onward : FurtherOn s.place t.place
-  pub placed : Placed gs es
-  pub sound : Sound (given gs es) t
 
 -- in every state that a run reaches the candidates are known or late, the place is further on in the text, and what was said is placed
 pub reached : {limits : Limits} {s : State} {es : List Event} {t : State} (gs : List GivenToken) → Sound gs s → StepsReach limits s es t → Reached gs s es t

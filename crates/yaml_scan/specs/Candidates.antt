@@ -5,7 +5,7 @@ use Rattle.std.proofs.Math.ListN.{get_or-append}
 use Rattle.std.proofs.Math.Seq.{get_or-append_seam}
 use Rattle.yaml_text.specs.declared.Mark.{Mark}
 use Rattle.yaml_text.specs.Mark.{Place, origin}
-use Rattle.yaml_text.proofs.DecodeLaws.{NoNul}
+use Rattle.yaml_text.specs.DecodeLaws.{NoNul}
 use Rattle.yaml_text.specs.Test.{by_pick}
 use Rattle.yaml_lexeme.specs.Token.{Kind, Token, empty_token}
 use Rattle.yaml_scan.specs.declared.Candidate.{Candidate}

@@ -12,7 +12,16 @@ pub mod Open
 pub mod Examples
 pub mod IndentLaws
 pub mod Candidates
+pub mod Fetches
+pub mod ChoiceLaws
+pub mod Runs
 pub mod LinesOver
+pub mod Required
+pub mod Budget
 pub mod Laws
+pub mod SlotLaws
 pub mod Moves
+pub mod FetchMoves
+pub mod Steps
 pub mod Removes
+pub mod Removal

@@ -8,9 +8,9 @@ use Rattle.yaml_text.specs.Mark.{Place, half_break, look, over, skip_break, skip
 use Rattle.yaml_text.specs.Refusal.{Read}
 use Rattle.yaml_text.specs.Test.{both_true, by_test, on_pick, true_false}
 use Rattle.yaml_text.specs.All.{All, all_any, all_bind, all_need, all_test, all_weak, holds, not_read}
-use Rattle.yaml_text.proofs.DecodeLaws.{NoNul, no_nul_drop}
+use Rattle.yaml_text.specs.DecodeLaws.{NoNul, no_nul_drop}
 use Rattle.yaml_text.specs.MarkLaws.{over_along, over_break}
-use Rattle.yaml_text.proofs.PlaceLaws.{FurtherOn, fits_no_nul, fits_refl, fits_trans, skip_break_fit, skip_break_line}
+use Rattle.yaml_text.specs.PlaceLaws.{FurtherOn, fits_no_nul, fits_refl, fits_trans, skip_break_fit, skip_break_line}
 use Rattle.yaml_lexeme.specs.declared.Before.{Before}
 use Rattle.yaml_lexeme.specs.declared.Before.TheVariants.{AfterText, InComment, Leading, Spaced, Tabbed}
 use Rattle.yaml_lexeme.specs.declared.Style.{Style}
@@ -18,7 +18,7 @@ use Rattle.yaml_lexeme.specs.Token.{Lexeme}
 use Rattle.yaml_lexeme.specs.Gap.{Gap, GapTurn, after_gap_turn, gap_turn, on_hash, on_other, pass, skip_gap, stop, wrong}
 use Rattle.yaml_lexeme.specs.Block.{Layout, Margin, block_content, content_column, margin, opens_content, scan_block_scalar}
 use Rattle.yaml_lexeme.specs.Fits.{blanks_and_comment_fit, skip_gap_fit}
-use Rattle.yaml_lexeme.proofs.BlockFits.{content_fit, indicators_fit, margin_fit}
+use Rattle.yaml_lexeme.specs.BlockFits.{content_fit, indicators_fit, margin_fit}
 
 -- the gap: where no simple key is allowed before it and one is behind it, the line is over
 

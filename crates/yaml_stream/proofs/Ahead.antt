@@ -1,39 +1,18 @@
--- Calls that give tokens, one behind the other: the slots whose tokens are no possible keys are given without a step in between, and so is what waits
--- behind the end of the text.
+-- Theorems about specs/Ahead, and what rests on them.
 use Prim.Native.Nat.{◌+◌, ◌<◌, ◌≤◌, suc, zero, ℕ}
 use Rattle.std.specs.Prelude.{false, ◌≡◌, refl, drop, length, take}
 use mathlib.Core.List.{List, [], ◌++◌, ◌∷◌}
-use Rattle.std.proofs.Common.{◌∙◌, ap}
+use Rattle.std.proofs.Common.{◌∙◌}
 use native.Mathlib.Omega.{arith}
 use Rattle.yaml_lexeme.specs.Token.{Token}
 use Rattle.yaml_scan.specs.declared.Limits.{Limits}
 use Rattle.yaml_scan.specs.State.{State}
 use Rattle.yaml_scan.specs.Slots.{Slot, flat, slot}
-use Rattle.yaml_stream.specs.Stream.{Called, Stream, call, called, closing, first_of, give, possible, ready, scanning, token}
-use Rattle.yaml_stream.proofs.Waiting.{StreamReaches, call_reaches}
-use Rattle.yaml_stream.proofs.Seeks.{call_here}
-
--- calls that give these tokens, one behind the other
-pub data CallsGive (limits : Limits) (room : ℕ) : Stream → List Token → Stream → Type 0 where
-  there : {x : Stream} → CallsGive limits room x [] x
-  gives : {x y z : Stream} {t : Token} {ts : List Token} → call limits room x ≡ called (token t) y → CallsGive limits room y ts z → CallsGive limits room x (t ∷ ts) z
+use Rattle.yaml_stream.specs.Stream.{Stream, call, closing, first_of, give, possible, ready, scanning}
+use Rattle.yaml_stream.specs.Seeks.{call_here}
+use Rattle.yaml_stream.specs.Ahead.{CallsGive, there, gives}
 
 module _ (limits : Limits) (room : ℕ) where
-  pub ahead_then : {x y z : Stream} {ts us : List Token} → CallsGive limits room x ts y → CallsGive limits room y us z → CallsGive limits room x (ts ++ us) z
-  ahead_then there b = b
-  ahead_then (gives e a) b = gives e (ahead_then a b)
-
-  -- where two calls answer alike, one stream gives what the other gives
-  pub ahead_from : {x y z : Stream} {ts : List Token} → call limits room x ≡ call limits room y → 1 ≤ length ts → CallsGive limits room y ts z → CallsGive limits room x ts z
-  ahead_from e h there = absurd (omega arith)
-  ahead_from e h (gives f a) = gives (e ∙ f) a
-
-  pub ahead_reaches : {w x y : Stream} {ts : List Token} → StreamReaches limits room w x → CallsGive limits room x ts y → StreamReaches limits room w y
-  ahead_reaches r there = r
-  ahead_reaches r (gives {x = x} e a) = ahead_reaches (rw (ap (λ (c : Called). c.stream) e) at (call_reaches limits room x r)) a
-
-  -- a slot whose token is no possible key
-
   call_first : (s : State) (n : ℕ) (x : Slot) (xs : List Slot) (used : ℕ) → possible n s.keys ≡ false
       → call limits room (scanning s n (x ∷ xs) used) ≡ first_of (λ k ys. scanning s k ys used) n x.before x.token xs
   unfolding ready give
@@ -54,8 +33,6 @@ module _ (limits : Limits) (room : ℕ) where
   free_ahead s n (suc k) (x ∷ xs) used b h =
       let e : n + suc k ≡ suc n + k = omega arith in
       slot_ahead s n x.before x.token xs used (h n (omega arith)) (rw e (free_ahead s (suc n) k xs used (omega arith) (λ i c. h i (omega arith))))
-
-  -- behind the end of the text
 
   slot_closes : {z : Stream} {ts : List Token} (bs : List Token) (t : Token) (xs : List Slot) → CallsGive limits room (closing xs) ts z
       → CallsGive limits room (closing (slot t bs ∷ xs)) (bs ++ (t ∷ ts)) z

@@ -1,6 +1,6 @@
--- Where the first waiting token is a possible key before a step and not behind it, the only candidate that is left is the token that came last.
-use Rattle.std.specs.Prelude.{◌+◌, ◌≤◌, suc, ℕ, Bool, ◌||◌, false, true, List, [], ◌++◌, ◌∷◌, ◌⊎◌, ◌≡◌, refl, eqb, drop}
-use Rattle.std.proofs.Common.{append_assoc, inl, inr, ◌∙◌, ap, sym, arith, eqb-true}
+-- Theorems about specs/Alone, and what rests on them.
+use Rattle.std.specs.Prelude.{◌+◌, suc, ℕ, Bool, false, true, List, [], ◌++◌, ◌∷◌, ◌⊎◌, ◌≡◌, refl, drop}
+use Rattle.std.proofs.Common.{append_assoc, inl, inr, ◌∙◌, ap, sym, arith}
 use Rattle.yaml_text.specs.declared.Mark.{Mark}
 use Rattle.yaml_text.specs.Mark.{Place}
 use Rattle.yaml_text.specs.Test.{by_pick, by_test, true_false}
@@ -16,60 +16,23 @@ use Rattle.yaml_scan.specs.State.{Event, News, State, block_ends, empty_if, ends
 use Rattle.yaml_scan.specs.Document.{all_ends}
 use Rattle.yaml_scan.specs.Scan.{step, unrolled}
 use Rattle.yaml_scan.specs.Candidates.{Fall, fall_drop, fall_less}
-use Rattle.yaml_scan.proofs.Runs.{puts_ends}
+use Rattle.yaml_scan.specs.Runs.{puts_ends}
 use Rattle.yaml_scan.specs.Moves.{Move, Moves, begins, block_start, closes, goes_in, leaves, opens, pair_end, parts, tells, uses}
-use Rattle.yaml_scan.proofs.Steps.{Gapped, Takes, gapped, inside, lapses, stays, step_by, unrolled_state}
+use Rattle.yaml_scan.specs.Steps.{Gapped, Takes, gapped, inside, lapses, stays, unrolled_state}
+use Rattle.yaml_scan.proofs.Steps.{step_by}
 use Rattle.yaml_stream.specs.Stream.{possible}
 use Rattle.yaml_stream.specs.Kept.{From, puts_append}
-
--- no candidate
-abbrev pub Absents : List Candidate → Type 0
-Absents [] = Unit {0}
-Absents (Absent ∷ ks) = Absents ks
-Absents (Possible required k m ∷ ks) = ⊥
+use Rattle.yaml_stream.specs.Alone.{Absents, absents_drop, IsFirstKey, possible_more, gap_count, Last, LastOf, outer, none, only}
 
 absents_from : (k : ℕ) (ks : List Candidate) → Absents ks → From k ks
 absents_from k [] h = tt
 absents_from k (Absent ∷ ks) h = absents_from k ks h
 absents_from k (Possible required n m ∷ ks) h = absurd h
 
-pub absents_drop : (ks : List Candidate) → Absents ks → Absents (drop 1 ks)
-absents_drop [] h = tt
-absents_drop (Absent ∷ ks) h = h
-absents_drop (Possible required n m ∷ ks) h = absurd h
-
--- where no candidate is left, no token is a possible key
-pub absents_not : (n : ℕ) (ks : List Candidate) → Absents ks → possible n ks ≡ false
-unfolding possible
-absents_not n [] h = refl
-absents_not n (Absent ∷ ks) h = absents_not n ks h
-absents_not n (Possible required k m ∷ ks) h = absurd h
-
--- none is below n, and none is from n on
-fall_absents : (n : ℕ) (ks : List Candidate) → Fall n ks → From n ks → Absents ks
-fall_absents n [] f h = tt
-fall_absents n (Absent ∷ ks) f h = fall_absents n ks f h
-fall_absents n (Possible required k m ∷ ks) f h = absurd (omega (arith, f.0, h.0))
-
 fall_top : (b : ℕ) (ks : List Candidate) → Fall b ks → Fall b (set_key (top_key ks) ks)
 unfolding top_key
 fall_top b [] f = tt
 fall_top b (k ∷ ks) f = f
-
--- token n is a candidate, and none came before it: it is that of a level further out, or of this one, and then there is none further out
-pub data IsFirstKey (n : ℕ) (ks : List Candidate) : Type 0 where
-  outer : possible n (drop 1 ks) ≡ true → IsFirstKey n ks
-  none : Absents ks → IsFirstKey n ks
-  only : possible n ks ≡ true → Absents (drop 1 ks) → IsFirstKey n ks
-
-pub possible_more : (n : ℕ) (c : Candidate) (ks : List Candidate) → possible n ks ≡ true → possible n (c ∷ ks) ≡ true
-unfolding possible
-possible_more n Absent ks e = e
-possible_more n (Possible required k m) ks e = rw e (or_true (eqb n k))
-  where
-    or_true : (b : Bool) → (b || true) ≡ true
-    or_true true = refl
-    or_true false = refl
 
 possible_drop : (n : ℕ) (ks : List Candidate) → possible n (drop 1 ks) ≡ true → possible n ks ≡ true
 possible_drop n [] e = e
@@ -78,22 +41,6 @@ possible_drop n (c ∷ ks) e = possible_more n c ks e
 -- what is no candidate is none of a level further out
 pub not_outer : (n : ℕ) (ks : List Candidate) → possible n ks ≡ false → possible n (drop 1 ks) ≡ false
 not_outer n ks e = by_test (possible n (drop 1 ks)) (λ f. true_false (sym (possible_drop n ks f) ∙ e)) (λ f. f)
-
--- so it is where n is a possible key
-pub holds_possible : (n b : ℕ) (ks : List Candidate) → From n ks → Fall b ks → possible n ks ≡ true → IsFirstKey n ks
-unfolding possible
-holds_possible n b [] h f e = true_false (sym e)
-holds_possible n b (Absent ∷ ks) h f e = outer e
-holds_possible n b (Possible required k m ∷ ks) h f e =
-    by_test (eqb n k)
-    (λ i. let j = eqb-true n k i in only e (fall_absents n ks (rw (sym j) at f.1) h.1))
-    (λ i. outer (rw i at e))
-
--- and where all tokens were given
-pub holds_none : (n : ℕ) (ks : List Candidate) → From n ks → Fall n ks → IsFirstKey n ks
-holds_none n ks h f = none (fall_absents n ks f h)
-
--- the gap and the lapse
 
 holds_lapsed : (n : ℕ) (ks : List Candidate) → IsFirstKey n ks → IsFirstKey n (set_key Absent ks)
 holds_lapsed n ks (outer e) = outer e
@@ -110,22 +57,10 @@ gap_holds n (gapped f spares (inside e)) h = h
 gap_holds {s} n (gapped f spares (lapses e)) h = holds_lapsed n s.keys h
 gap_holds {s} n (gapped f spares (stays e k)) h = holds_top n s.keys h
 
-pub gap_count : {s t : State} → Gapped s t → t.count ≡ s.count
-gap_count (gapped f spares i) = refl
-
 gap_falls : {s t : State} → Gapped s t → Fall s.count s.keys → Fall s.count t.keys
 gap_falls (gapped f spares (inside e)) h = h
 gap_falls {s} (gapped f spares (lapses e)) h = fall_drop s.count s.keys h
 gap_falls {s} (gapped f spares (stays e k)) h = fall_top s.count s.keys h
-
--- what comes last: a token, of number k
-pub record Last (n k : ℕ) (s : State) (es : List Event) (ks : List Candidate) : Type 0 where
-  pub front : List Event
-  pub last : Token
-  pub is : es ≡ front ++ (put last ∷ [])
-  pub numbered : k ≡ s.count + puts front
-  pub falls : Fall s.count s.keys → Fall (suc k) ks
-  pub alone : IsFirstKey n s.keys → (possible n ks ≡ true) ⊎ From k ks
 
 -- the candidate of this level is gone, or the level
 gone : (n k : ℕ) (ks : List Candidate) → IsFirstKey n ks → (possible n (drop 1 ks) ≡ true) ⊎ From k (drop 1 ks)
@@ -156,8 +91,6 @@ saved_none n s = (λ f. fall_less s.count (suc s.count) s.keys (omega arith) f, 
 saved : (n : ℕ) (s : State) → Saved n s (save_key s).keys
 unfolding save_key
 saved n s = by_pick (λ (t : State). Saved n s t.keys) s.simple_key_allowed _ s (saved_new n s _ (mark_of s)) (saved_none n s)
-
--- a move
 
 -- a token that may be a candidate
 tells_last : (n : ℕ) (s : State) (t : Token) (ks : List Candidate) → Saved n s ks → Last n s.count s (put t ∷ []) ks
@@ -190,12 +123,6 @@ move_last n s {t} (parts m e) = (_, absent_last (gone_last n s (pair_end m s) t)
 move_last n s {t} (begins {pair = p} {r = r} sequence m e b) =
     (_, absent_last (gone_last n s (empty_if p FlowMappingStart m ++ empty_if r.starts (block_start sequence) m) t))
 move_last n s {t} (uses {pair = p} {n = k} {m = m} {r = r} e b c) = (_, absent_last (gone_last n s (put_before k (goes_in p r.starts m) ∷ []) t))
-
--- a step
-
-abbrev pub LastOf : ℕ → State → News → Type 0
-LastOf n s (goes_on es t) = (k : ℕ) × Last n k s es t.keys × (t.count ≡ suc k)
-LastOf n s (ends_with es) = 1 ≤ puts es
 
 last_after : {n k : ℕ} {s t : State} {es : List Event} {ks : List Candidate} (j : ℕ) (m : Mark) → Gapped s t → Last n k (unrolled_state t) es ks → j ≡ (unrolled t).ended
     → Last n k s (block_ends j m ++ es) ks

@@ -1,75 +1,20 @@
--- What the calls of Ask 8 answer: the tokens of 01's list in order, or a beginning of what its rules have built; then the same answer for ever.
+-- Theorems about specs/Answers, and what rests on them.
 use Rattle.std.specs.Prelude.{◌<◌, ℕ, List, [], ◌++◌, ◌∷◌, ◌≡◌, refl, length}
 use Rattle.std.proofs.Common.{append_assoc, ◌∙◌, ap, sym, arith, length-append}
 use Rattle.yaml_text.specs.declared.Mark.{Mark}
 use Rattle.yaml_text.specs.Refusal.{got}
-use Rattle.yaml_text.specs.Test.{by_test}
 use Rattle.yaml_text.specs.All.{all_got}
 use Rattle.yaml_lexeme.specs.Token.{Token}
 use Rattle.yaml_scan.specs.declared.Limits.{Limits}
 use Rattle.yaml_scan.specs.State.{Event, State, goes_on}
 use Rattle.yaml_scan.specs.Scan.{outcome, scanned, step, stopped}
 use Rattle.yaml_scan.specs.Slots.{Slot, tokens_of}
-use Rattle.yaml_stream.specs.Stream.{Heard, Next, Stream, broken, budget, call, called, closing, ended, first_of, fresh, give, hear, possible, refusal, scanning, sought, spent, token}
+use Rattle.yaml_stream.specs.Stream.{Heard, Stream, fresh, hear, scanning, token}
 use Rattle.yaml_stream.specs.Kept.{NotesFrom, step_keeps}
 use Rattle.yaml_stream.specs.Tale.{Close, at_end, at_rule, built, closes_as, outcome_of, outcome_told, told, unclosed}
-use Rattle.yaml_stream.proofs.Given.{Answered, Ends, Hears, Own, Owes, call_answers, finished, fresh_owes, so_far, stream_hears}
-
--- what comes on every later call
-
--- the stream behind an answer
-abbrev Lasts : Next → Stream → Type 0
-Lasts (token t) x = Unit {0}
-Lasts ended x = x ≡ closing []
-Lasts (refusal k m) x = x ≡ broken k m
-Lasts spent x = Unit {0}
-
-first_lasts : (f : ℕ → List Slot → Stream) (n : ℕ) (bs : List Token) (t : Token) (xs : List Slot) → Lasts (first_of f n bs t xs).answer (first_of f n bs t xs).stream
-unfolding first_of
-first_lasts f n [] t xs = tt
-first_lasts f n (b ∷ bs) t xs = tt
-
-give_lasts : (x : Stream) → Lasts (give x).answer (give x).stream
-unfolding give
-give_lasts (scanning s n [] used) = tt
-give_lasts (scanning s n (x ∷ xs) used) =
-    by_test (possible n s.keys) (λ e. rw (e, give) tt) (λ e. rw (e, give) (first_lasts (λ k ys. scanning s k ys used) n x.before x.token xs))
-give_lasts (closing []) = refl
-give_lasts (closing (x ∷ xs)) = first_lasts (λ _ ys. closing ys) 0 x.before x.token xs
-give_lasts (broken k m) = refl
-
--- behind a refusal the stream is broken
-pub refused_stays : (limits : Limits) (room : ℕ) (x : Stream) (k : ℕ) (m : Mark) → (call limits room x).answer ≡ refusal k m → (call limits room x).stream ≡ broken k m
-unfolding call
-refused_stays limits room x k m e =
-    let y = sought limits room (budget x) x in
-    let h : Lasts (refusal k m) (give y).stream = rw e at (give_lasts y) in
-    h
-
--- and the same refusal comes again
-pub refused_again : (limits : Limits) (room k : ℕ) (m : Mark) → call limits room (broken k m) ≡ called (refusal k m) (broken k m)
-unfolding call give sought budget
-refused_again limits room k m = refl
-
--- behind "ended" nothing is left
-pub ended_stays : (limits : Limits) (room : ℕ) (x : Stream) → (call limits room x).answer ≡ ended → (call limits room x).stream ≡ closing []
-unfolding call
-ended_stays limits room x e =
-    let y = sought limits room (budget x) x in
-    let h : Lasts ended (give y).stream = rw e at (give_lasts y) in
-    h
-
--- and "ended" comes again
-pub ended_again : (limits : Limits) (room : ℕ) → call limits room (closing []) ≡ called ended (closing [])
-unfolding call give sought budget
-ended_again limits room = refl
-
--- between calls
-
--- the stream y, behind calls from x that gave the tokens ts
-pub data Comes (limits : Limits) (room : ℕ) (x : Stream) : List Token → Stream → Type 0 where
-  here : Comes limits room x [] x
-  then_call : {ts : List Token} {t : Token} {y z : Stream} → Comes limits room x ts y → call limits room y ≡ called (token t) z → Comes limits room x (ts ++ (t ∷ [])) z
+use Rattle.yaml_stream.specs.Given.{Answered, Ends, Hears, Own, Owes, finished, fresh_owes, so_far}
+use Rattle.yaml_stream.proofs.Given.{call_answers, stream_hears}
+use Rattle.yaml_stream.specs.Answers.{Comes, here, then_call}
 
 -- what is given and what is owed are the list that the rules have built. (In such a stream no candidate names a token that was given: Given, Kept)
 pub comes_owes : (limits : Limits) (bytes : List ℕ) (words room : ℕ) {ts : List Token} {y : Stream} → Comes limits room (fresh limits bytes words) ts y
@@ -88,8 +33,6 @@ none_before_given limits bytes words room {s = s} {n = n} r es t e =
     let h = (comes_owes limits bytes words room r).2 in
     (all_got (step_keeps n limits s (omega (arith, h.counted)) h.from) e).0
 
--- all calls
-
 -- no call runs out of its budget, and calls enough come to an end
 pub comes_to_end : (limits : Limits) (bytes : List ℕ) (words room k : ℕ) → length (built limits bytes) < k
     → Ends (Own words room (built limits bytes)) (built limits bytes) (told limits bytes).close (hear limits room k (fresh limits bytes words))
@@ -99,16 +42,12 @@ comes_to_end limits bytes words room k b = by_hearing (stream_hears limits bytes
     by_hearing (finished e) = e
     by_hearing (so_far {ts = ts} vs e f) = let l = ap (λ (us : List Token). length us) e in absurd (omega (arith, length-append ts vs))
 
--- a text that 01 accepts
-
 -- the tokens given are its list, then "ended"; or, where one of the stream's own refusals is met, a beginning of it
 pub accepted_ends : (limits : Limits) (bytes : List ℕ) (words room k : ℕ) (es : List Event) → outcome limits bytes ≡ scanned es → length (tokens_of es) < k
     → Ends (Own words room (tokens_of es)) (tokens_of es) at_end (hear limits room k (fresh limits bytes words))
 accepted_ends limits bytes words room k es e b =
     let f = closes_as (told limits bytes).close (told limits bytes).events es (sym (outcome_told limits bytes) ∙ e) in
     rw (f.0, f.1) at (comes_to_end limits bytes words room k (rw f.1 b))
-
--- a text that 01 refuses
 
 breaks_as : (c : Close) (fs : List Event) (n : ℕ) (m : Mark) → outcome_of fs c ≡ stopped n m → c ≡ at_rule n m
 breaks_as at_end fs n m e = let z : ◌≡◌ {A = ℕ} 0 1 = cc in absurd (omega arith)

@@ -1,90 +1,29 @@
--- Between two calls no token that waits is a possible key but the last, the candidate of one level, before which nothing goes in yet.
--- So where a call has to scan, nothing waits, or that token alone.
-use Rattle.std.specs.Prelude.{◌+◌, ◌<◌, ◌≤◌, suc, zero, ℕ, false, true, List, [], ◌++◌, ◌∷◌, ◌⊎◌, ◌≡◌, refl, ltb, drop, length}
-use Rattle.std.proofs.Common.{inl, inr, ◌∙◌, ap, sym, le_refl, arith, length-append, ltb-false, ltb-true, ne_eqb}
+-- Theorems about specs/Between, and what rests on them.
+use Rattle.std.specs.Prelude.{suc, zero, ℕ, false, true, List, [], ◌∷◌, ◌⊎◌, ◌≡◌, refl, ltb, length}
+use Rattle.std.proofs.Common.{inl, inr, ◌∙◌, ap, sym, le_refl, arith, ltb-false, ltb-true}
 use Rattle.yaml_text.specs.Mark.{origin}
 use Rattle.yaml_text.specs.Refusal.{Read, got, refused}
 use Rattle.yaml_text.specs.Test.{by_test, true_false}
 use Rattle.yaml_text.specs.All.{all_got}
 use Rattle.yaml_lexeme.specs.Token.{StreamStart, Token, empty_token}
-use Rattle.yaml_scan.specs.declared.Candidate.{Candidate}
-use Rattle.yaml_scan.specs.declared.Candidate.TheVariants.{Absent, Possible}
+use Rattle.yaml_scan.specs.declared.Candidate.TheVariants.{Absent}
 use Rattle.yaml_scan.specs.declared.Limits.{Limits}
 use Rattle.yaml_scan.specs.State.{Event, News, State, ends_with, goes_on}
 use Rattle.yaml_scan.specs.Scan.{begin, step}
 use Rattle.yaml_scan.specs.Slots.{Slot, slot}
 use Rattle.yaml_stream.specs.Stream.{Called, Stream, after_news, behind, broken, budget, call, closing, fresh, give, possible, ready, scanning, sought, stepped, waits}
 use Rattle.yaml_stream.specs.Kept.{From}
-use Rattle.yaml_stream.proofs.Changes.{behind_by, fresh_by, give_by}
-use Rattle.yaml_stream.proofs.Alone.{LastOf, step_last}
-use Rattle.yaml_stream.proofs.Waiting.{Held, StreamKeeps, StreamReaches, call_reaches, here as at_once, holds_before, not_false, reaches_keeps, stepped_keeps, waits_then}
-use Rattle.yaml_stream.proofs.Answers.{Comes, here, then_call}
-use Rattle.yaml_stream.proofs.Levels.{OnLevel, new_on, on_absents, on_none}
+use Rattle.yaml_stream.specs.Changes.{behind_by, fresh_by}
+use Rattle.yaml_stream.proofs.Changes.{give_by}
+use Rattle.yaml_stream.specs.Alone.{LastOf}
+use Rattle.yaml_stream.proofs.Alone.{step_last}
+use Rattle.yaml_stream.specs.Waiting.{Held, StreamKeeps, waits_then}
+use Rattle.yaml_stream.proofs.Waiting.{holds_before, reaches_keeps, stepped_keeps}
+use Rattle.yaml_stream.specs.Answers.{Comes, here, then_call}
+use Rattle.yaml_stream.specs.Levels.{OnLevel}
+use Rattle.yaml_stream.proofs.Levels.{new_on, on_absents, on_none}
 use Rattle.yaml_stream.proofs.Seeks.{found_ready}
-
--- nothing goes in yet before the last token that waits
-pub record Bare (xs : List Slot) : Type 0 where
-  pub others : List Slot
-  pub last : Token
-  pub is : xs ≡ others ++ (slot last [] ∷ [])
-
--- between two calls; l: the only flow level that may have a candidate
-pub record BetweenCalls (l : ℕ) (s : State) (n : ℕ) (xs : List Slot) : Type 0 where
-  pub level : (i : ℕ) → OnLevel i l s.keys
-  pub others_not : (i : ℕ) → suc i < s.count → possible i s.keys ≡ false
-  pub bare : (xs ≡ []) ⊎ Bare xs
-
-abbrev pub BetweenIn : Stream → Type 0
-BetweenIn (scanning s n xs used) = (l : ℕ) × BetweenCalls l s n xs
-BetweenIn (closing xs) = Unit {0}
-BetweenIn (broken k m) = Unit {0}
-
--- where a call has to scan
-
--- the last token waits, alone
-pub record Lone (s : State) (n : ℕ) (xs : List Slot) : Type 0 where
-  pub last : Token
-  pub is : xs ≡ slot last [] ∷ []
-  pub numbered : suc n ≡ s.count
-  pub first : possible n s.keys ≡ true
-
-pub to_scan : {l : ℕ} {s : State} {n : ℕ} {xs : List Slot} (used : ℕ) → n + length xs ≡ s.count → BetweenCalls l s n xs → ready (scanning s n xs used) ≡ false → (xs ≡ []) ⊎ Lone s n xs
-unfolding ready
-to_scan {s = s} {n = n} {xs = xs} used c h r = by_slots xs refl
-  where
-    lone : possible n s.keys ≡ true → (others : List Slot) (last : Token) → xs ≡ others ++ (slot last [] ∷ []) → suc n ≡ s.count → Lone s n xs
-    lone p [] last e f = record { last = last; is = e; numbered = f; first = p }
-    lone p (y ∷ ys) last e f =
-        let g = ap length e in
-        absurd (omega (arith, length-append ys (slot last [] ∷ [])))
-
-    last_one : (ys : List Slot) → 1 ≤ length ys → xs ≡ ys → possible n s.keys ≡ true → suc n ≡ s.count
-    last_one ys b e p =
-        by_test (ltb (suc n) s.count)
-        (λ f. true_false (sym p ∙ h.others_not n (ltb-true (suc n) s.count f)))
-        (λ f. let g = ltb-false (suc n) s.count f in let i = ap length e in omega arith)
-
-    by_bare : (y : Slot) (ys : List Slot) → xs ≡ y ∷ ys → possible n s.keys ≡ true → (xs ≡ []) ⊎ Bare xs → (xs ≡ []) ⊎ Lone s n xs
-    by_bare y ys e p (inl f) = inl f
-    by_bare y ys e p (inr b) = inr (lone p b.others b.last b.is (last_one (y ∷ ys) (omega arith) e p))
-
-    by_slots : (ys : List Slot) → xs ≡ ys → (xs ≡ []) ⊎ Lone s n xs
-    by_slots [] e = inl e
-    by_slots (y ∷ ys) e = by_bare y ys e (not_false (possible n s.keys) (rw e at r)) h.bare
-
--- a step
-
--- tokens before those that candidates name are no possible keys
-pub from_not : (i k : ℕ) (ks : List Candidate) → From k ks → i < k → possible i ks ≡ false
-unfolding possible
-from_not i k [] h b = refl
-from_not i k (Absent ∷ ks) h b = from_not i k ks h b
-from_not i k (Possible required j m ∷ ks) h b = rw (ne_eqb i j (λ e. omega (arith, h.0)), from_not i k ks h.1 b)
-
--- behind it the first waiting token is still a possible key, or the call pauses; the level is that from which the step was made
-abbrev pub Pauses : State → ℕ → List Slot → News → Type 0
-Pauses s n xs (goes_on es t) = (possible n t.keys ≡ true) ⊎ BetweenCalls (length s.levels) t n (waits n xs es)
-Pauses s n xs (ends_with es) = Unit {0}
+use Rattle.yaml_stream.specs.Between.{BetweenCalls, BetweenIn, from_not, Pauses, between_given, between_part, still_first, comes_reaches}
 
 pub step_pauses : (limits : Limits) (s : State) (n : ℕ) (xs : List Slot) (used : ℕ) → Held limits s n xs → ready (scanning s n xs used) ≡ false → (es : List Event) (t : State)
     → step limits s ≡ got (goes_on es t) → Pauses s n xs (goes_on es t)
@@ -107,60 +46,13 @@ step_pauses limits s n xs used h r es t e = by_alone (m.1.alone (holds_before us
       bare = inr (record { others = waits n xs m.1.front; last = m.1.last; is = waits_then n xs es m.1.front m.1.last m.1.is });
     })
 
--- a token is given
-
-bare_rest : (x : Slot) (xs : List Slot) → (x ∷ xs ≡ []) ⊎ Bare (x ∷ xs) → (xs ≡ []) ⊎ Bare xs
-bare_rest x xs (inl e) = let z : ◌≡◌ {A = ℕ} 0 1 = cc in absurd (omega arith)
-bare_rest x xs (inr b) = by_others b.others b.is
-  where
-    by_others : (ys : List Slot) → x ∷ xs ≡ ys ++ (slot b.last [] ∷ []) → (xs ≡ []) ⊎ Bare xs
-    by_others [] e = let g : xs ≡ [] = cc in inl g
-    by_others (y ∷ ys) e = let g : xs ≡ ys ++ (slot b.last [] ∷ []) = cc in inr (record { others = ys; last = b.last; is = g })
-
-bare_part : (t b : Token) (bs : List Token) (xs : List Slot) → (slot t (b ∷ bs) ∷ xs ≡ []) ⊎ Bare (slot t (b ∷ bs) ∷ xs) → (slot t bs ∷ xs ≡ []) ⊎ Bare (slot t bs ∷ xs)
-bare_part t b bs xs (inl e) = let z : ◌≡◌ {A = ℕ} 0 1 = cc in absurd (omega arith)
-bare_part t b bs xs (inr a) = by_others a.others a.is
-  where
-    by_others : (ys : List Slot) → slot t (b ∷ bs) ∷ xs ≡ ys ++ (slot a.last [] ∷ []) → (slot t bs ∷ xs ≡ []) ⊎ Bare (slot t bs ∷ xs)
-    by_others [] e =
-        let g : slot t (b ∷ bs) ≡ slot a.last [] = cc in
-        let k : b ∷ bs ≡ [] = ap (λ (x : Slot). x.before) g in
-        let z : ◌≡◌ {A = ℕ} 0 1 = cc in
-        absurd (omega arith)
-    by_others (y ∷ ys) e =
-        let g : xs ≡ ys ++ (slot a.last [] ∷ []) = cc in
-        inr (record { others = slot t bs ∷ ys; last = a.last; is = ap (λ (zs : List Slot). slot t bs ∷ zs) g })
-
--- its slot's own, or one that was put in before it: the level stays
-pub between_given : {l : ℕ} {s : State} {n : ℕ} {t : Token} {xs : List Slot} → BetweenCalls l s n (slot t [] ∷ xs) → BetweenCalls l s (suc n) xs
-between_given {t = t} {xs = xs} h = record { level = h.level; others_not = h.others_not; bare = bare_rest (slot t []) xs h.bare }
-
-pub between_part : {l : ℕ} {s : State} {n : ℕ} {t b : Token} {bs : List Token} {xs : List Slot} → BetweenCalls l s n (slot t (b ∷ bs) ∷ xs) → BetweenCalls l s n (slot t bs ∷ xs)
-between_part {t = t} {b = b} {bs = bs} {xs = xs} h = record { level = h.level; others_not = h.others_not; bare = bare_part t b bs xs h.bare }
-
--- the first slots, whatever goes in before their tokens
-pub between_drop : {l : ℕ} {s : State} {n : ℕ} (k i : ℕ) {xs : List Slot} → BetweenCalls l s n xs → BetweenCalls l s i (drop k xs)
-between_drop {n = n} k i {xs = xs} h = record { level = h.level; others_not = h.others_not; bare = bare_drop k xs h.bare }
-  where
-    bare_drop : (j : ℕ) (ys : List Slot) → (ys ≡ []) ⊎ Bare ys → (drop j ys ≡ []) ⊎ Bare (drop j ys)
-    bare_drop zero ys b = b
-    bare_drop (suc j) [] b = inl refl
-    bare_drop (suc j) (y ∷ ys) b = bare_drop j ys (bare_rest y ys b)
-
 pub give_between : (x : Stream) → BetweenIn x → BetweenIn (give x).stream
 give_between x h =
     give_by BetweenIn (λ s n used b bs t xs k. (k.0, between_part k.1)) (λ s n used t xs e k. (k.0, between_given k.1)) (λ b bs t xs k. tt) (λ t xs k. tt) x h
 
--- a call
-
 -- within it the first waiting token is a possible key, or it is as between two
 abbrev MidIn : Stream → Type 0
 MidIn x = (ready x ≡ false) ⊎ BetweenIn x
-
-pub still_first : (s : State) (n : ℕ) (xs : List Slot) (used : ℕ) → possible n s.keys ≡ true → ready (scanning s n xs used) ≡ false
-unfolding ready
-still_first s n [] used p = refl
-still_first s n (x ∷ xs) used p = rw p
 
 pauses_mid : (s t : State) (n : ℕ) (xs : List Slot) (es : List Event) (used : ℕ) → Pauses s n xs (goes_on es t) → MidIn (scanning t n (waits n xs es) used)
 pauses_mid s t n xs es used (inl p) = inl (still_first t n (waits n xs es) used p)
@@ -197,8 +89,6 @@ call_between limits room x h b =
     by_mid y e (inl f) = true_false (sym e ∙ f)
     by_mid y e (inr c) = c
 
--- a fresh state
-
 -- whatever level is noted for it
 pub begin_between : (l : ℕ) (cs : List ℕ) → BetweenCalls l (begin cs) 0 (slot (empty_token StreamStart origin) [] ∷ [])
 begin_between l cs =
@@ -206,12 +96,6 @@ begin_between l cs =
 
 pub fresh_between : (limits : Limits) (bytes : List ℕ) (words : ℕ) → BetweenIn (fresh limits bytes words)
 fresh_between limits bytes words = fresh_by BetweenIn limits bytes words tt tt (λ k m. tt) (λ cs _. (0, begin_between 0 cs))
-
--- and so in every stream behind whole calls
-
-pub comes_reaches : (limits : Limits) (room : ℕ) {x y : Stream} {ts : List Token} → Comes limits room x ts y → StreamReaches limits room x y
-comes_reaches limits room here = at_once
-comes_reaches limits room (then_call {y = y} r e) = rw (ap (λ (c : Called). c.stream) e) at (call_reaches limits room y (comes_reaches limits room r))
 
 pub comes_between : (limits : Limits) (room : ℕ) {x y : Stream} {ts : List Token} → StreamKeeps limits x → BetweenIn x → Comes limits room x ts y → BetweenIn y
 comes_between limits room h b here = b

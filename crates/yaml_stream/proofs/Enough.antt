@@ -1,4 +1,4 @@
--- Where room is enough, all of 01's list is given. And the records and texts of the tokens given, at any time, are the first of its list's.
+-- Theorems about specs/Enough, and what rests on them.
 use Rattle.std.specs.Prelude.{◌*◌, ◌+◌, ◌/◌, ◌<◌, ◌≤◌, ℕ, List, [], ◌++◌, ◌∷◌, ◌≡◌, refl, length}
 use Rattle.std.proofs.Common.{append_assoc, ◌∙◌, ap, sym, add-zero, arith, length-append}
 use Rattle.yaml_text.specs.declared.Mark.{Mark}
@@ -15,8 +15,9 @@ use Rattle.theorems.specs.Bytes as bytes
 use Rattle.yaml_stream.specs.Stream.{Heard, Stream, ended, fresh, hear, heard, least_records, most_waiting, refusal, too_many_wait}
 use Rattle.yaml_stream.specs.Tale.{at_end, built}
 use Rattle.yaml_stream.specs.Sizes.{texts_append}
-use Rattle.yaml_stream.proofs.Given.{Ends, Own, by_own, by_rule, bytes_full, few_words, many_wait, whole}
-use Rattle.yaml_stream.proofs.Answers.{Comes, accepted_ends, comes_owes}
+use Rattle.yaml_stream.specs.Given.{Ends, Own, by_own, by_rule, bytes_full, few_words, many_wait, whole}
+use Rattle.yaml_stream.specs.Answers.{Comes}
+use Rattle.yaml_stream.proofs.Answers.{accepted_ends, comes_owes}
 
 not_own : {n : ℕ} {m : Mark} (words room : ℕ) (list : List Token) → least_records ≤ words / record_words → length (texts list) ≤ room → length list ≤ most_waiting → Own words room list n m → ⊥
 not_own words room list w d t (bytes_full h) = omega arith
@@ -59,8 +60,6 @@ enough limits text ts words room k a w b c h =
     let l = ap (λ (us : List Token). length us) a.list in
     let x = ap (λ (us : List Token). length (texts us)) a.list in
     all_given limits text words room k a.events a.accepted (omega arith) w (omega arith) (omega arith) ∙ ap (λ (us : List Token). heard us ended) (sym a.list)
-
--- records and texts
 
 records_append : (used : ℕ) (ts us : List Token) → records used (ts ++ us) ≡ records used ts ++ records (used + length (texts ts)) us
 unfolding records texts

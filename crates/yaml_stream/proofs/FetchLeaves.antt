@@ -1,5 +1,5 @@
--- What a step says and what it leaves of the candidates, by the token that it scans. Moves (in yaml_scan) has the same in seven cases, but no kinds of tokens.
-use Rattle.std.specs.Prelude.{◌+◌, ◌≤◌, ◌<◌, suc, zero, ℕ, Bool, ◌&&◌, ◌||◌, false, not, true, List, [], ◌++◌, ◌∷◌, ◌⊎◌, ◌≡◌, refl, leb, ltb, drop}
+-- Theorems about specs/FetchLeaves, and what rests on them.
+use Rattle.std.specs.Prelude.{◌+◌, ◌≤◌, ◌<◌, ℕ, Bool, ◌&&◌, ◌||◌, false, not, true, List, [], ◌++◌, ◌∷◌, ◌⊎◌, ◌≡◌, refl, leb, ltb, drop}
 use Rattle.std.proofs.Common.{inl, inr, ◌∙◌, ap, sym, arith}
 use Rattle.yaml_text.specs.declared.Mark.{Mark}
 use Rattle.yaml_text.specs.Pick.{pick}
@@ -30,59 +30,17 @@ use Rattle.yaml_scan.specs.Choice.{choice}
 use Rattle.yaml_scan.specs.Fetch.{fetch, fetch_anchor, fetch_block_scalar, fetch_flow_scalar, fetch_plain_scalar, fetch_tag}
 use Rattle.yaml_scan.specs.Scan.{step, to_next_token, unrolled}
 use Rattle.yaml_scan.specs.Candidates.{Fall, fall_drop}
-use Rattle.yaml_scan.proofs.Fetches.{save_key_place, stack_bracket_is}
+use Rattle.yaml_scan.specs.Fetches.{save_key_place, stack_bracket_is}
 use Rattle.yaml_scan.specs.LinesOver.{gap_forbids}
-use Rattle.yaml_scan.proofs.Runs.{TakesOrEnds, next_news}
-use Rattle.yaml_scan.proofs.Steps.{Gapped, gapped, inside, lapses, stays, to_next_token_gapped, unrolled_state}
+use Rattle.yaml_scan.specs.Runs.{TakesOrEnds}
+use Rattle.yaml_scan.proofs.Runs.{next_news}
+use Rattle.yaml_scan.specs.Steps.{Gapped, gapped, inside, lapses, stays, to_next_token_gapped, unrolled_state}
 use Rattle.yaml_stream.specs.Stream.{possible}
-use Rattle.yaml_stream.proofs.Alone.{gap_count, not_outer}
-use Rattle.yaml_stream.proofs.Here.{flow_scalar_ends}
+use Rattle.yaml_stream.specs.Alone.{gap_count}
+use Rattle.yaml_stream.proofs.Alone.{not_outer}
+use Rattle.yaml_stream.specs.Here.{flow_scalar_ends}
 use Rattle.yaml_stream.specs.Orderly.{Part, block_scalar, colon, comma, is_scalar, line_scalar, list_start, mapping_start, may_be_key, other, part, part_of, property, scalar_part}
-
--- tokens that are no keys: starts and ends of blocks and of implicit pairs
-abbrev pub Fillers : List Event → Type 0
-Fillers [] = Unit {0}
-Fillers (put t ∷ es) = ((part_of t ≡ other) ⊎ (part_of t ≡ mapping_start)) × Fillers es
-Fillers (put_before n ts ∷ es) = ⊥
-
--- a token scanned from the state v: what is said, and the state behind it
-pub data FetchLeaves (v : State) : List Event → State → Type 0 where
-  -- scalars, tags, anchors and aliases: the token may be the next candidate
-  a_text : {t : State} (k : Token) → (is_scalar (part_of k) ≡ true) ⊎ (part_of k ≡ property)
-      → (part_of k ≡ line_scalar → (t.simple_key_allowed ≡ false) × (k.end ≡ mark_of t)) → t.keys ≡ (save_key v).keys → FetchLeaves v (put k ∷ []) t
-  -- '[' and '{'
-  a_bracket : {t : State} (k : Token) → (part_of k ≡ list_start) ⊎ (part_of k ≡ mapping_start) → k.start ≡ mark_of v → t.keys ≡ Absent ∷ (save_key v).keys
-      → FetchLeaves v (put k ∷ []) t
-  -- ':' with a candidate
-  a_use : {t : State} {required : Bool} {n : ℕ} {m : Mark} {ts : List Token} (k : Token) → part_of k ≡ colon → top_key v.keys ≡ Possible required n m
-      → t.simple_key_allowed ≡ false → t.keys ≡ set_key Absent v.keys → FetchLeaves v (put_before n ts ∷ put k ∷ []) t
-  -- all others: this level's candidate is gone, or its level is
-  a_rest : {t : State} (fs : List Event) (k : Token) → Fillers fs → may_be_key (part_of k) ≡ false
-      → (part_of k ≡ colon → (t.simple_key_allowed ≡ false) ⊎ (v.simple_key_allowed ≡ true))
-      → (t.keys ≡ set_key Absent v.keys) ⊎ (t.keys ≡ drop 1 v.keys) → FetchLeaves v (fs ++ (put k ∷ [])) t
-
--- a step: the gap, the ends of blocks, and a token
-pub record StepLeaves (s : State) (es : List Event) (t : State) : Type 0 where
-  -- the state behind the gap and the ends of blocks
-  pub before_token : State
-  pub ended : ℕ
-  pub said : List Event
-  pub events : es ≡ block_ends ended (mark_of before_token) ++ said
-  pub fetched : FetchLeaves before_token said t
-  pub counted : before_token.count ≡ s.count + ended
-  -- the gap: no candidate comes, on the same line no simple key gets allowed
-  pub shrinks : (i : ℕ) → possible i s.keys ≡ false → possible i before_token.keys ≡ false
-  pub shrinks_outer : (i : ℕ) → possible i (drop 1 s.keys) ≡ false → possible i (drop 1 before_token.keys) ≡ false
-  pub falls : (b : ℕ) → Fall b s.keys → Fall b before_token.keys
-  pub calm : s.simple_key_allowed ≡ false → (before_token.simple_key_allowed ≡ false) ⊎ ((mark_of s).line < (mark_of before_token).line)
-  pub line_on : (mark_of s).line ≤ (mark_of before_token).line
-  pub line_behind : (mark_of before_token).line ≤ (mark_of t).line
-
-abbrev pub LeavesIn : State → News → Type 0
-LeavesIn s (goes_on es t) = StepLeaves s es t
-LeavesIn s (ends_with es) = Unit {0}
-
--- what the readers' tokens are
+use Rattle.yaml_stream.specs.FetchLeaves.{Fillers, FetchLeaves, LeavesIn, end_fillers, a_text, a_bracket, a_use, a_rest}
 
 abbrev Is : Part → Lexeme → Type 0
 Is a l = part_of l.token ≡ a
@@ -134,19 +92,12 @@ bracket_token : (k : Kind) (p : Place) → All Lexeme (λ l. (l.token.kind ≡ k
 unfolding scan_bracket
 bracket_token k p = all_bind _ (all_any _) (λ e _. holds (refl, refl))
 
--- the fillers before a token
-
 abbrev Front : Type 0
 Front = (fs : List Event) × Fillers fs
 
 -- an empty token, or none
 abbrev front_if : Bool → (k : Kind) → Mark → (part k ≡ other) ⊎ (part k ≡ mapping_start) → Front
 front_if b k m h = (empty_if b k m, by_pick Fillers b (put (empty_token k m) ∷ []) [] (h, tt) tt)
-
-pub end_fillers : (n : ℕ) (m : Mark) → Fillers (block_ends n m)
-unfolding part
-end_fillers zero m = tt
-end_fillers (suc n) m = (inl refl, end_fillers n m)
 
 abbrev all_ended : State → Front
 all_ended v = (all_ends v, end_fillers (unroll_to 0 v).ended (mark_of v))
@@ -163,8 +114,6 @@ both_fillers (put_before n ts ∷ es) fs h k = absurd h
 
 abbrev fronts : Front → Front → Front
 fronts es fs = (es.0 ++ fs.0, both_fillers es.0 fs.0 es.1 fs.1)
-
--- a fetch
 
 abbrev LeavesFrom : State → News → Type 0
 LeavesFrom v (goes_on es t) = FetchLeaves v es t
@@ -247,8 +196,6 @@ fetch_leaves limits (AtBlock literal) v = all_bind _ (block_scalar_is literal _ 
 fetch_leaves limits (AtQuoted single) v =
     all_bind _ (all_both (flow_scalar_is (in_flow v) single _ v.place) (flow_scalar_ends (in_flow v) single _ v.place)) (λ l h. line_made l.token h.0 refl h.1 refl)
 
--- the gap
-
 -- to show something of the candidates behind it, show it of those before it, and where this level's is gone
 gap_leaves : {s v : State} (P : List Candidate → Type 0) → Gapped s v → P s.keys → P (set_key Absent s.keys) → P v.keys
 unfolding top_key
@@ -277,8 +224,6 @@ lapse_calm s u h =
 gap_calm : (s : State) → All State (Calm s) (to_next_token s)
 unfolding to_next_token
 gap_calm s = all_bind _ (gap_forbids _ s.simple_key_allowed _ (mark_of s) (rest_of s)) (λ g h. lapse_calm s _ h)
-
--- a step
 
 pub step_leaves : (limits : Limits) (s : State) → All News (LeavesIn s) (step limits s)
 unfolding step possible

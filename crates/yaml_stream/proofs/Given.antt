@@ -1,6 +1,6 @@
--- What the calls give, from a fresh state on: a beginning of the list that the rules have built, and what comes behind it.
-use Prim.Native.Nat.{◌+◌, ◌/◌, ◌<◌, ◌≤◌, suc, zero, ℕ}
-use Rattle.std.specs.Prelude.{Bool, false, not, true, ◌⊎◌, ◌≡◌, ltb}
+-- Theorems about specs/Given, and what rests on them.
+use Prim.Native.Nat.{◌+◌, ◌<◌, ◌≤◌, suc, zero, ℕ}
+use Rattle.std.specs.Prelude.{Bool, false, not, true, ◌≡◌, ltb}
 use mathlib.Core.List.{List, [], ◌++◌, ◌∷◌}
 use Rattle.std.proofs.Math.Logic.{inl}
 use Rattle.std.proofs.Common.{inr, ◌∙◌, sym, le_refl, not-suc-le-zero, arith}
@@ -8,55 +8,27 @@ use Rattle.std.proofs.Math.Path.{ap, refl}
 use Rattle.std.proofs.Math.ListN.{length}
 use borrow.Author.Tests.{ltb-true}
 use Rattle.yaml_text.specs.declared.Mark.{Mark}
-use Rattle.yaml_text.specs.Mark.{origin}
-use Rattle.yaml_text.specs.Refusal.{Read, got, refused}
 use Rattle.yaml_text.specs.Test.{both_true, by_test, true_false}
-use Rattle.yaml_text.specs.All.{All, all_both, holds, not_read}
-use Rattle.yaml_text.proofs.DecodeLaws.{Decodes, NoNul, decode_is}
-use Rattle.yaml_text.proofs.PlaceLaws.{left}
-use Rattle.yaml_lexeme.specs.Token.{StreamStart, Token, empty_token, kind_bytes, texts}
-use Rattle.yaml_lexeme.specs.Record.{record_words}
+use Rattle.yaml_text.specs.All.{all_both}
+use Rattle.yaml_text.specs.PlaceLaws.{left}
+use Rattle.yaml_lexeme.specs.Token.{Token, texts}
 use Rattle.yaml_scan.specs.declared.Limits.{Limits}
-use Rattle.yaml_scan.specs.State.{Event, State, put}
-use Rattle.yaml_scan.specs.Scan.{begin, step}
-use Rattle.yaml_scan.specs.Slots.{Slot, flat, slot, slots, tokens_of}
-use Rattle.yaml_scan.proofs.SlotLaws.{total}
+use Rattle.yaml_scan.specs.State.{State}
+use Rattle.yaml_scan.specs.Scan.{step}
+use Rattle.yaml_scan.specs.Slots.{Slot, flat, slot}
+use Rattle.yaml_scan.specs.SlotLaws.{total}
 use Rattle.yaml_scan.proofs.Runs.{step_news}
-use Rattle.yaml_scan.proofs.Budget.{on_news}
-use Rattle.yaml_stream.specs.Stream.{Called, Heard, Next, Stream, after_news, begun, behind, brings, broken, budget, call, closing, crowded, ended, first_of, fresh, give, hear, heard, least_records, most_waiting, on_answer, possible, ready, refusal, scanning, sought, spent, stepped, token, too_few_words, too_many_wait, waits}
+use Rattle.yaml_scan.specs.Budget.{on_news}
+use Rattle.yaml_stream.specs.Stream.{Heard, Next, Stream, after_news, behind, brings, broken, budget, call, closing, crowded, ended, first_of, fresh, give, hear, heard, most_waiting, on_answer, possible, ready, refusal, scanning, sought, spent, stepped, token, waits}
 use Rattle.yaml_stream.specs.Kept.{From, step_keeps}
-use Rattle.yaml_stream.specs.Tale.{Close, at_end, at_rule, built, in_step, tale, tale_notes, text_tale, told, told_of}
-use Rattle.yaml_stream.specs.Sizes.{brings_append, brings_texts, text_total, total_append}
+use Rattle.yaml_stream.specs.Tale.{Close, at_end, built, in_step, tale, tale_notes, told}
+use Rattle.yaml_stream.specs.Sizes.{brings_append, total_append}
 use Rattle.yaml_stream.proofs.Seeks.{found_ready}
-use Rattle.yaml_stream.specs.Waits.{from_next, waits_append, waits_length, waits_past, waits_slots, waits_total}
-
--- the refusals of the stream's own, each with its reason; list: what the rules have built
-pub data Own (words room : ℕ) (list : List Token) : ℕ → Mark → Type 0 where
-  bytes_full : room < length (texts list) → Own words room list 5 origin
-  many_wait : {m : Mark} → most_waiting < length list → Own words room list too_many_wait m
-  few_words : words / record_words < least_records → Own words room list too_few_words origin
+use Rattle.yaml_stream.specs.Waits.{from_next, waits_append, waits_length, waits_past, waits_total}
+use Rattle.yaml_stream.specs.Given.{Own, StillGives, Owes, Answered, CallAnswers, Ends, Hears, fresh_owes, bytes_full, many_wait, whole, by_rule, by_own, finished, so_far}
 
 module _ (limits : Limits) (words room : ℕ) (list : List Token) where
-  -- what a stream has still to give if it meets none of them: us, and then the run's close c.
-  -- No candidate names a token that was given, and each token that was said and not given waits
-  pub record StillGives (s : State) (n : ℕ) (xs : List Slot) (used : ℕ) (us : List Token) (c : Close) : Type 0 where
-    pub steps : ℕ
-    pub enough : left s.place < steps
-    pub from : From n s.keys
-    pub counted : n + length xs ≡ s.count
-    pub tokens : us ≡ flat (waits n xs (tale limits steps s).events)
-    pub close : c ≡ (tale limits steps s).close
-    pub bytes_left : used + brings (tale limits steps s).events ≤ length (texts list)
-    pub tokens_left : length (flat xs) + total (tale limits steps s).events ≤ length list
-
-  abbrev pub Owes : List Token → Close → Stream → Type 0
-  Owes us c (scanning s n xs used) = StillGives s n xs used us c
-  Owes us c (closing xs) = (us ≡ flat xs) × (c ≡ at_end)
-  Owes us c (broken k m) = (c ≡ at_rule k m) ⊎ Own words room list k m
-
-  -- a step
-
-  behind_owes : {us : List Token} {c : Close} (s : State) (n : ℕ) (xs : List Slot) (used : ℕ) → StillGives s n xs used us c → Owes us c (behind room s n xs used)
+  behind_owes : {us : List Token} {c : Close} (s : State) (n : ℕ) (xs : List Slot) (used : ℕ) → (StillGives limits words room list) s n xs used us c → (Owes limits words room list) us c (behind room s n xs used)
   unfolding behind crowded
   behind_owes s n xs used h =
       by_test (ltb room used)
@@ -67,12 +39,12 @@ module _ (limits : Limits) (words room : ℕ) (list : List Token) where
 
   turn_owes : (k : ℕ) (s : State) (n : ℕ) (xs : List Slot) (used : ℕ) → left s.place < suc k → From n s.keys → n + length xs ≡ s.count
       → used + brings (tale limits (suc k) s).events ≤ length (texts list) → length (flat xs) + total (tale limits (suc k) s).events ≤ length list
-      → Owes (flat (waits n xs (tale limits (suc k) s).events)) (tale limits (suc k) s).close (after_news room n xs used (step limits s))
+      → (Owes limits words room list) (flat (waits n xs (tale limits (suc k) s).events)) (tale limits (suc k) s).close (after_news room n xs used (step limits s))
   unfolding tale
   turn_owes k s n xs used b h e =
       on_news
       (λ r. let t = in_step r (λ u. tale limits k u) in used + brings t.events ≤ length (texts list) → length (flat xs) + total t.events ≤ length list
-      → Owes (flat (waits n xs t.events)) t.close (after_news room n xs used r))
+      → (Owes limits words room list) (flat (waits n xs t.events)) t.close (after_news room n xs used r))
       (all_both (step_news [] limits s) (step_keeps n limits s (omega arith) h))
       (λ es t i d l. let fs = (tale limits k t).events in behind_owes t n (waits n xs es) (used + brings es) (record {
         steps = k;
@@ -86,19 +58,19 @@ module _ (limits : Limits) (words room : ℕ) (list : List Token) where
       }))
       (λ es _ _ _. (refl, refl)) (λ _ _ _ _. inl refl)
 
-  pub stepped_owes : (us : List Token) (c : Close) (x : Stream) → Owes us c x → Owes us c (stepped limits room x)
+  pub stepped_owes : (us : List Token) (c : Close) (x : Stream) → (Owes limits words room list) us c x → (Owes limits words room list) us c (stepped limits room x)
   unfolding stepped
   stepped_owes us c (scanning s n xs used) h = by_steps h.steps h.enough h.tokens h.close h.bytes_left h.tokens_left
     where
       by_steps : (k : ℕ) → left s.place < k → us ≡ flat (waits n xs (tale limits k s).events) → c ≡ (tale limits k s).close
           → used + brings (tale limits k s).events ≤ length (texts list) → length (flat xs) + total (tale limits k s).events ≤ length list
-          → Owes us c (after_news room n xs used (step limits s))
+          → (Owes limits words room list) us c (after_news room n xs used (step limits s))
       by_steps zero b e f d l = absurd (not-suc-le-zero b)
       by_steps (suc k) b e f d l = rw (e, f) (turn_owes k s n xs used b h.from h.counted d l)
   stepped_owes us c (closing xs) h = h
   stepped_owes us c (broken k m) h = h
 
-  pub sought_owes : (us : List Token) (c : Close) (k : ℕ) (x : Stream) → Owes us c x → Owes us c (sought limits room k x)
+  pub sought_owes : (us : List Token) (c : Close) (k : ℕ) (x : Stream) → (Owes limits words room list) us c x → (Owes limits words room list) us c (sought limits room k x)
   unfolding sought
   sought_owes us c zero x h = h
   sought_owes us c (suc k) x h =
@@ -106,26 +78,14 @@ module _ (limits : Limits) (words room : ℕ) (list : List Token) where
       (λ e. rw (e, sought) h)
       (λ e. rw (e, sought) (sought_owes us c k (stepped limits room x) (stepped_owes us c x h)))
 
--- a call
-
 not_possible : (b : Bool) → not b ≡ true → b ≡ false
 not_possible true e = true_false (sym e)
 not_possible false e = refl
 
 module _ (limits : Limits) (words room : ℕ) (list : List Token) where
-  -- of an answer, and the stream behind it
-  abbrev pub Answered : List Token → Close → Next → Stream → Type 0
-  Answered us c (token t) x = (vs : List Token) × (us ≡ t ∷ vs) × Owes limits words room list vs c x
-  Answered us c ended x = (us ≡ []) × (c ≡ at_end)
-  Answered us c (refusal k m) x = (c ≡ at_rule k m) ⊎ Own words room list k m
-  Answered us c spent x = ⊥
-
-  abbrev pub CallAnswers : List Token → Close → Called → Type 0
-  CallAnswers us c a = Answered us c a.answer a.stream
-
   -- the first slot's token is no possible key
   first_scanned : {us : List Token} {c : Close} (s : State) (n : ℕ) (bs : List Token) (t : Token) (xs : List Slot) (used : ℕ)
-      → StillGives limits words room list s n (slot t bs ∷ xs) used us c → possible n s.keys ≡ false → CallAnswers us c (first_of (λ k ys. scanning s k ys used) n bs t xs)
+      → StillGives limits words room list s n (slot t bs ∷ xs) used us c → possible n s.keys ≡ false → (CallAnswers limits words room list) us c (first_of (λ k ys. scanning s k ys used) n bs t xs)
   unfolding first_of flat
   first_scanned s n [] t xs used h e =
       let f = from_next n s.keys h.from e in
@@ -165,12 +125,12 @@ module _ (limits : Limits) (words room : ℕ) (list : List Token) where
       )
 
   first_closing : {us : List Token} {c : Close} (bs : List Token) (t : Token) (xs : List Slot) → us ≡ bs ++ (t ∷ flat xs) → c ≡ at_end
-      → CallAnswers us c (first_of (λ _ ys. closing ys) 0 bs t xs)
+      → (CallAnswers limits words room list) us c (first_of (λ _ ys. closing ys) 0 bs t xs)
   unfolding first_of flat
   first_closing [] t xs e f = (flat xs, e, (refl, f))
   first_closing (b ∷ bs) t xs e f = (bs ++ (t ∷ flat xs), e, (refl, f))
 
-  give_answers : (us : List Token) (c : Close) (x : Stream) → ready x ≡ true → Owes limits words room list us c x → CallAnswers us c (give x)
+  give_answers : (us : List Token) (c : Close) (x : Stream) → ready x ≡ true → Owes limits words room list us c x → (CallAnswers limits words room list) us c (give x)
   unfolding give ready flat
   give_answers us c (scanning s n [] used) r h = true_false (sym r)
   give_answers us c (scanning s n (x ∷ xs) used) r h =
@@ -180,27 +140,10 @@ module _ (limits : Limits) (words room : ℕ) (list : List Token) where
   give_answers us c (closing (x ∷ xs)) r h = first_closing x.before x.token xs h.0 h.1
   give_answers us c (broken k m) r h = h
 
-  pub call_answers : (us : List Token) (c : Close) (x : Stream) → Owes limits words room list us c x → CallAnswers us c (call limits room x)
+  pub call_answers : (us : List Token) (c : Close) (x : Stream) → Owes limits words room list us c x → (CallAnswers limits words room list) us c (call limits room x)
   unfolding call
   call_answers us c x h =
       give_answers us c (sought limits room (budget x) x) (found_ready limits room (budget x) x (le_refl _)) (sought_owes limits words room list us c (budget x) x h)
-
--- calls, one behind another
-
--- the tokens given and what comes behind them. P: the refusals of the stream's own
-pub data Ends (P : ℕ → Mark → Type 0) (us : List Token) (c : Close) : Heard → Type 0 where
-  -- all, then ended
-  whole : c ≡ at_end → Ends P us c (heard us ended)
-  -- a beginning, then the refusal of the broken rule
-  by_rule : {ts : List Token} {n : ℕ} {m : Mark} (vs : List Token) → us ≡ ts ++ vs → c ≡ at_rule n m → Ends P us c (heard ts (refusal n m))
-  -- a beginning, then one of the stream's own
-  by_own : {ts : List Token} {n : ℕ} {m : Mark} (vs : List Token) → us ≡ ts ++ vs → P n m → Ends P us c (heard ts (refusal n m))
-
--- what k calls are heard to answer
-pub data Hears (P : ℕ → Mark → Type 0) (us : List Token) (c : Close) (k : ℕ) : Heard → Type 0 where
-  finished : {h : Heard} → Ends P us c h → Hears P us c k h
-  -- a beginning, a token from each call
-  so_far : {ts : List Token} (vs : List Token) → us ≡ ts ++ vs → length ts ≡ k → Hears P us c k (heard ts spent)
 
 ends_more : {P : ℕ → Mark → Type 0} {us vs : List Token} {c : Close} {h : Heard} (t : Token) → us ≡ t ∷ vs → Ends P vs c h → Ends P us c (heard (t ∷ h.tokens) h.last)
 ends_more t e (whole f) = rw e (whole f)
@@ -227,40 +170,6 @@ module _ (limits : Limits) (words room : ℕ) (list : List Token) where
   hear_hears us c (suc k) x h =
       let a = call limits room x in
       hears_answer us c k (λ y. hear limits room k y) (λ vs y o. hear_hears vs c k y o) a.answer a.stream (call_answers limits words room list us c x h)
-
--- a fresh state
-
-begun_owes : (limits : Limits) (words room : ℕ) (cs : List ℕ) → NoNul cs → let t = text_tale limits cs in Owes limits words room (tokens_of t.events) (tokens_of t.events) t.close (begun words cs)
-unfolding begun slots brings total kind_bytes flat
-begun_owes limits words room cs h =
-    let s : Event = put (empty_token StreamStart origin) in
-    let x : List Slot = slot (empty_token StreamStart origin) [] ∷ [] in
-    let es = (tale limits (suc (length cs)) (begin cs)).events in
-    by_test (ltb (words / record_words) least_records)
-    (λ e. rw (e, begun) (inr (few_words (ltb-true (words / record_words) least_records e))))
-    (λ e. rw (e, begun) (record {
-      steps = suc (length cs);
-      enough = le_refl _;
-      from = tt;
-      counted = refl;
-      tokens = ap flat (sym (waits_slots x es));
-      close = refl;
-      bytes_left = omega (arith, brings_texts (s ∷ es));
-      tokens_left = omega (arith, text_total limits cs h);
-    }))
-
-pub fresh_owes : (limits : Limits) (bytes : List ℕ) (words room : ℕ)
-    → Owes limits words room (built limits bytes) (built limits bytes) (told limits bytes).close (fresh limits bytes words)
-unfolding fresh told
-fresh_owes limits bytes words room =
-    by_test (ltb limits.bytes (length bytes))
-    (λ e. rw (e, fresh, told) (inl refl))
-    (λ e. rw (e, fresh, told) (by_text (decode_is 0 origin bytes)))
-  where
-    by_text : {r : Read (List ℕ)} → All (List ℕ) (Decodes 0 bytes) r → let t = told_of limits r in
-        Owes limits words room (tokens_of t.events) (tokens_of t.events) t.close (elim r [ got cs ↦ begun words cs | refused k m ↦ broken k m ])
-    by_text (holds {a = cs} d) = begun_owes limits words room cs d.no_nul
-    by_text not_read = inl refl
 
 -- from a fresh state, whatever the number of calls
 pub stream_hears : (limits : Limits) (bytes : List ℕ) (words room k : ℕ)

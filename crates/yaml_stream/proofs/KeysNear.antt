@@ -1,103 +1,39 @@
--- In the run of an accepted text whose list is orderly, few tokens stand behind one that may still be a key: the tokens said so far are in the list, one behind another,
--- and what goes in before one that is no possible key went in already. So behind a possible key its list goes on as StillKeys says, and Orderly says that few are left.
+-- Theorems about specs/KeysNear, and what rests on them.
 use Prim.Native.Nat.{◌+◌, ◌<◌, ◌≤◌, suc, zero, ℕ}
-use Rattle.std.specs.Prelude.{Bool, ◌⊎◌, ◌≡◌, ltb}
+use Rattle.std.specs.Prelude.{Bool, ◌⊎◌, ◌≡◌}
 use Rattle.std.proofs.Math.Bool.{false, true}
-use mathlib.Core.List.{List, [], ◌++◌, ◌∷◌, append_assoc}
+use mathlib.Core.List.{List, [], ◌++◌, ◌∷◌}
 use Rattle.std.proofs.Common.{inl, inr, ◌∙◌, ap, sym, eq-eqb}
 use Rattle.std.proofs.Math.Path.{refl}
 use native.Mathlib.Omega.{arith}
 use Rattle.std.proofs.Math.ListN.{length}
 use Rattle.yaml_text.specs.declared.Mark.{Mark}
-use Rattle.yaml_text.specs.Mark.{origin}
-use Rattle.yaml_text.specs.Refusal.{Read, got, refused}
-use Rattle.yaml_text.specs.Decode.{decode}
-use Rattle.yaml_text.proofs.PlaceLaws.{left}
-use Rattle.yaml_text.specs.Test.{by_test, true_false}
-use Rattle.yaml_text.specs.All.{all_got}
-use Rattle.yaml_lexeme.specs.Token.{BlockMappingStart, FlowMappingStart, Key, StreamStart, Token, empty_token}
+use Rattle.yaml_text.specs.PlaceLaws.{left}
+use Rattle.yaml_text.specs.Test.{true_false}
+use Rattle.yaml_lexeme.specs.Token.{BlockMappingStart, FlowMappingStart, Key, Token, empty_token}
 use Rattle.yaml_scan.specs.declared.Candidate.{Candidate}
 use Rattle.yaml_scan.specs.declared.Candidate.TheVariants.{Absent, Possible}
 use Rattle.yaml_scan.specs.declared.Limits.{Limits}
-use Rattle.yaml_scan.specs.State.{Event, State, goes_on, mark_of, put, put_before, puts}
-use Rattle.yaml_scan.specs.Scan.{Outcome, after_events, after_step, begin, outcome, run, scan, scanned, spent, step, stopped}
+use Rattle.yaml_scan.specs.State.{Event, State, mark_of, put, put_before, puts}
+use Rattle.yaml_scan.specs.Scan.{after_step, begin, run, scanned}
 use Rattle.yaml_scan.specs.Slots.{Slot, flat, note, slot, slots}
-use Rattle.yaml_scan.proofs.SlotLaws.{slots_append, slots_length}
-use Rattle.yaml_scan.proofs.Runs.{StepsReach, here, step_news, then_step}
-use Rattle.yaml_scan.proofs.Budget.{on_news, outcome_placed, run_enough}
+use Rattle.yaml_scan.specs.SlotLaws.{slots_append, slots_length}
+use Rattle.yaml_scan.specs.Runs.{StepsReach, here}
+use Rattle.yaml_scan.specs.Budget.{on_news}
+use Rattle.yaml_scan.proofs.Budget.{outcome_placed}
 use Rattle.theorems.specs.Accepted.{Accepts}
 use Rattle.theorems.specs.Induction.{OfOutcome, after_good}
 use Rattle.yaml_stream.specs.Stream.{possible}
 use Rattle.yaml_stream.specs.Kept.{Names, NotesAt}
 use Rattle.yaml_stream.specs.Tale.{closes_as, run_tale, tale, tale_names}
 use Rattle.yaml_stream.specs.Waits.{flat_length}
-use Rattle.yaml_stream.proofs.Alone.{possible_more}
+use Rattle.yaml_stream.specs.Alone.{possible_more}
 use Rattle.yaml_stream.specs.Notes.{AllNoted, Note, Notes, block, key, no_note, noted_after, notes_append, pair, step_notes}
 use Rattle.yaml_stream.specs.Orderly.{InOrder, Orderly, Part, SetApart, block_scalar, colon, comma, is_scalar, key_token, line_scalar, list_start, mapping_start, may_be_key, other, part, part_of, property, sets_apart}
 use Rattle.yaml_stream.specs.StillKeys.{BehindOne, StillKeys}
-use Rattle.yaml_stream.proofs.StillKeysSteps.{KeysSoFar, reached_keys}
-
--- the run from a state to the text's end
-
-abbrev pub run_from : Limits → State → Outcome
-run_from limits s = run limits (suc (left s.place)) s
-
-pub run_on : (limits : Limits) (s t : State) (es : List Event) → step limits s ≡ got (goes_on es t) → run_from limits s ≡ after_events es (run_from limits t)
-unfolding run
-run_on limits s t es e = rw (e, run) (ap (λ (o : Outcome). after_events es o) (run_enough limits (left s.place) t (all_got (step_news [] limits s) e).takes))
-
-after_none : (o : Outcome) → o ≡ after_events [] o
-after_none (scanned es) = refl
-after_none (stopped n m) = refl
-after_none spent = refl
-
-after_both : (es fs : List Event) (o : Outcome) → after_events es (after_events fs o) ≡ after_events (es ++ fs) o
-after_both es fs (scanned gs) = ap scanned (sym (append_assoc es fs gs))
-after_both es fs (stopped n m) = refl
-after_both es fs spent = refl
-
-after_scanned : (es fs : List Event) (o : Outcome) → after_events es o ≡ scanned fs → (gs : List Event) × (o ≡ scanned gs) × (fs ≡ es ++ gs)
-after_scanned es fs (scanned gs) e = (gs, refl, cc)
-after_scanned es fs (stopped n m) e = let z : ◌≡◌ {A = ℕ} 0 1 = cc in absurd (omega arith)
-after_scanned es fs spent e = let z : ◌≡◌ {A = ℕ} 0 1 = cc in absurd (omega arith)
-
-reached_run : {limits : Limits} {s t : State} {es : List Event} → StepsReach limits s es t → run_from limits s ≡ after_events es (run_from limits t)
-reached_run {limits} {s} here = after_none (run_from limits s)
-reached_run {limits} (then_step {es = es} {fs = fs} {t = t} {u = u} r e) =
-    reached_run r ∙ ap (λ (o : Outcome). after_events es o) (run_on limits t u fs e) ∙ after_both es fs (run_from limits u)
-
-abbrev pub stream_start : Token
-stream_start = empty_token StreamStart origin
-
--- the characters of an accepted text, and its run from the first of them, which says its events
-pub record AcceptedRun (limits : Limits) (bytes : List ℕ) (es : List Event) : Type 0 where
-  pub text : List ℕ
-  pub decoded : decode 0 origin bytes ≡ got text
-  pub runs : after_events (put stream_start ∷ []) (run_from limits (begin text)) ≡ scanned es
-
-pub accepted_run : {limits : Limits} {bytes : List ℕ} {ts : List Token} (a : Accepts limits bytes ts) → AcceptedRun limits bytes a.events
-unfolding outcome scan
-accepted_run {limits} {bytes} a =
-    by_test (ltb limits.bytes (length bytes))
-    (λ b. not_stopped 1 origin (rw (b, outcome) at a.accepted))
-    (λ b. by_text (decode 0 origin bytes) refl (rw (b, outcome) at a.accepted))
-  where
-    not_stopped : {A : Type 0} (n : ℕ) (m : Mark) → stopped n m ≡ scanned a.events → A
-    not_stopped n m f = let z : ◌≡◌ {A = ℕ} 0 1 = cc in absurd (omega arith)
-
-    by_text : (r : Read (List ℕ)) → decode 0 origin bytes ≡ r → elim r [ got cs ↦ scan limits cs | refused n m ↦ stopped n m ] ≡ scanned a.events
-        → AcceptedRun limits bytes a.events
-    by_text (got cs) d f = record { text = cs; decoded = d; runs = f }
-    by_text (refused n m) d f = not_stopped n m f
-
--- its events: those up to a state, and those from there on
-pub run_rest : {limits : Limits} {bytes : List ℕ} {all es : List Event} {t : State} (a : AcceptedRun limits bytes all) → StepsReach limits (begin a.text) es t
-    → (fs : List Event) × (run_from limits t ≡ scanned fs) × (all ≡ put stream_start ∷ (es ++ fs))
-run_rest {limits} {all = all} {es = es} {t = t} a r =
-    let e = ap (λ (o : Outcome). after_events (put stream_start ∷ []) o) (reached_run r) ∙ after_both (put stream_start ∷ []) es (run_from limits t) in
-    after_scanned (put stream_start ∷ es) all (run_from limits t) (sym e ∙ a.runs)
-
--- what a run puts in
+use Rattle.yaml_stream.specs.StillKeysSteps.{KeysSoFar}
+use Rattle.yaml_stream.proofs.StillKeysSteps.{reached_keys}
+use Rattle.yaml_stream.specs.KeysNear.{run_from, stream_start, accepted_run, run_rest}
 
 run_notes : (limits : Limits) (k : ℕ) (s : State) → OfOutcome Notes (run limits k s)
 unfolding run
@@ -117,8 +53,6 @@ unfolding possible
 names_possible P [] h = tt
 names_possible P (Absent ∷ ks) h = names_possible P ks h
 names_possible P (Possible required k m ∷ ks) h = (h k (rw (eq-eqb k k refl)), names_possible P ks (λ j e. h j (possible_more j (Possible required k m) ks e)))
-
--- the slots grow
 
 module _ (ks : List Candidate) where
   -- the slots from number n on, and what they have become: the same tokens, and before one that is no possible key what stood there
@@ -169,8 +103,6 @@ module _ (ks : List Candidate) where
   grows_flat n (y ∷ ys) [] h = absurd h
   grows_flat n (y ∷ ys) (z ∷ zs) h = omega (arith, flat_length z zs, grows_flat (suc n) ys zs h.2)
 
--- the walk along the slots
-
 -- a key or its ':'
 in_pair : Part → Bool
 in_pair line_scalar = true
@@ -217,8 +149,6 @@ module _ (ks : List Candidate) (allowed : Bool) (line c : ℕ) where
   over_note {m} n p q x ys ts key o b = (q, empty_token Key m, back_other n q (empty_token Key m) ys refl, o.1)
   over_note {m} n p q x ys ts pair o b = (empty_token FlowMappingStart m, empty_token Key m, back_other n (empty_token FlowMappingStart m) (empty_token Key m) ys refl, o.1.1)
   over_note {m} n p q x ys ts block o b = (empty_token BlockMappingStart m, empty_token Key m, back_other n (empty_token BlockMappingStart m) (empty_token Key m) ys refl, o.1.1)
-
-  -- token n is a possible key, and x; ys have become zs
 
   -- what sets a scalar apart doesn't come behind it
   scalar_near : (n : ℕ) (x : Token) (ys zs : List Slot) → Grows ks (suc n) ys zs → BehindOne ks allowed line n x ys → is_scalar (part_of x) ≡ true → possible n ks ≡ true

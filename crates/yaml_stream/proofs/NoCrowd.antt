@@ -1,4 +1,4 @@
--- An accepted text whose list is orderly never meets 51, however long it is: behind a possible key few tokens wait (KeysNear), at most two are put in before each, and no step refuses.
+-- Theorems about specs/NoCrowd, and what rests on them.
 use Rattle.std.specs.Prelude.{◌*◌, ◌+◌, ◌≤◌, suc, ℕ, false, true, List, [], ◌∷◌, refl, ltb, length}
 use Rattle.std.proofs.Math.Path.{◌≡◌}
 use native.Mathlib.Omega.{arith}
@@ -12,18 +12,19 @@ use Rattle.yaml_scan.specs.declared.Limits.{Limits}
 use Rattle.yaml_scan.specs.State.{Event, News, State, ends_with, goes_on}
 use Rattle.yaml_scan.specs.Scan.{begin, run, scanned, step, stopped}
 use Rattle.yaml_scan.specs.Slots.{Slot, flat}
-use Rattle.yaml_scan.proofs.Runs.{StepsReach, here, then_step}
+use Rattle.yaml_scan.specs.Runs.{StepsReach, here, then_step}
 use Rattle.theorems.specs.Accepted.{Accepts}
 use Rattle.yaml_stream.specs.Stream.{Stream, after_news, broken, closing, crowded, fresh, give, most_waiting, possible, ready, scanning, too_many_wait, waits}
 use Rattle.yaml_stream.specs.Kept.{puts_append}
 use Rattle.yaml_stream.specs.Waits.{waits_length}
-use Rattle.yaml_stream.proofs.Changes.{behind_by, fresh_decoded, give_by, stepped_by}
-use Rattle.yaml_stream.proofs.Waiting.{StreamReaches, not_false, reaches_by}
-use Rattle.yaml_stream.proofs.Tight.{Thin, step_thin, thin_flat, thin_waits}
+use Rattle.yaml_stream.specs.Changes.{behind_by, fresh_decoded, stepped_by}
+use Rattle.yaml_stream.proofs.Changes.{give_by}
+use Rattle.yaml_stream.specs.Waiting.{StreamReaches, not_false, reaches_by}
+use Rattle.yaml_stream.specs.Tight.{Thin, step_thin, thin_flat, thin_waits}
 use Rattle.yaml_stream.specs.Orderly.{Orderly}
-use Rattle.yaml_stream.proofs.KeysNear.{accepted_run, key_near, reached_count, run_rest, stream_start}
+use Rattle.yaml_stream.specs.KeysNear.{accepted_run, run_rest, stream_start}
+use Rattle.yaml_stream.proofs.KeysNear.{key_near, reached_count}
 
--- a text that is accepted with an orderly list; at most c tokens are left behind a scalar that none sets apart
 module _ (limits : Limits) (bytes : List ℕ) (ts : List Token) (c : ℕ) (a : Accepts limits bytes ts) (orderly : Orderly c stream_start stream_start ts) where
   -- a state of the run, and what waits
   record OnRun (s : State) (n : ℕ) (xs : List Slot) : Type 0 where

@@ -1,8 +1,7 @@
--- The instance of InList for a sheet: in the stream of `seeds: [1, 1, ]`, however many seeds it has, at most 4 tokens wait, and 51 is not met.
+-- Theorems about specs/Sheet, and what rests on them.
 use Rattle.std.specs.Prelude.{◌+◌, ◌≤◌, suc, zero, ℕ, false, true, List, [], ◌∷◌, ◌≡◌, refl, length}
 use Rattle.std.proofs.Common.{inl, ◌∙◌, sym, arith}
 use Rattle.yaml_text.specs.declared.Mark.{Mark}
-use Rattle.yaml_text.specs.Char.{':', '[', space}
 use Rattle.yaml_text.specs.Mark.{along, origin}
 use Rattle.yaml_text.specs.Refusal.{got}
 use Rattle.yaml_text.specs.Test.{true_false}
@@ -11,33 +10,23 @@ use Rattle.yaml_scan.specs.State.{Event, State, goes_on, in_flow, put}
 use Rattle.yaml_scan.specs.Scan.{begin, standard, step}
 use Rattle.yaml_scan.specs.Open.{all_open}
 use Rattle.yaml_scan.specs.Slots.{Slot, flat}
-use Rattle.yaml_scan.proofs.SlotLaws.{total}
+use Rattle.yaml_scan.specs.SlotLaws.{total}
 use Rattle.yaml_stream.specs.Stream.{Stream, after_news, broken, closing, fresh, most_waiting, ready, scanning, too_many_wait, waits}
 use Rattle.yaml_stream.specs.Waits.{waits_total}
-use Rattle.yaml_stream.proofs.Changes.{behind_by, fresh_decoded, give_fewer, stepped_by}
-use Rattle.yaml_stream.proofs.Waiting.{StreamReaches, reaches_by}
-use Rattle.yaml_stream.proofs.InList.{Listed, comma_listed, comma_stays, few_crowded, listed_few, listed_fewer, none_waits, scalar_listed, scalar_stays}
-use Rattle.yaml_stream.proofs.OnKeyLine.{KeyLine}
-use Rattle.yaml_stream.proofs.SeedList as seeds
-use Rattle.yaml_stream.proofs.SeedList.{before_entries, behind_list, behind_seed, close_token, comma_next, comma_step, comma_token, end_step, entries, entries_simple, next_events, one_given, open_mark, seed_next, seed_step, seed_token, simple, simple_decode}
-
-abbrev pub sheet : ℕ → List ℕ
-sheet k = 115 ∷ 101 ∷ 101 ∷ 100 ∷ 115 ∷ ':' ∷ space ∷ '[' ∷ entries k
+use Rattle.yaml_stream.specs.Changes.{behind_by, fresh_decoded, stepped_by}
+use Rattle.yaml_stream.proofs.Changes.{give_fewer}
+use Rattle.yaml_stream.specs.Waiting.{StreamReaches, reaches_by}
+use Rattle.yaml_stream.specs.InList.{Listed, comma_listed, comma_stays, few_crowded, listed_few, listed_fewer, none_waits, scalar_listed, scalar_stays}
+use Rattle.yaml_stream.specs.SeedList as seeds
+use Rattle.yaml_stream.specs.SeedList.{before_entries, behind_list, behind_seed, close_token, comma_next, comma_step, comma_token, end_step, entries_simple, next_events, one_given, open_mark, seed_next, seed_step, seed_token, simple, simple_decode}
+use Rattle.yaml_stream.specs.Sheet.{sheet, behind_key}
 
 sheet_simple : (k : ℕ) → simple (sheet k) ≡ true
 unfolding simple all_open
 sheet_simple k = entries_simple k
 
--- the bracket stands on its key's line
-
-abbrev behind_key : ℕ → State
-behind_key k = seeds.behind_key 0 1 k 1 false
-
 abbrev behind_colon : ℕ → State
 behind_colon k = seeds.behind_colon 0 1 k 1
-
-pub key_line : (k : ℕ) → KeyLine standard (behind_key k) (seeds.behind_bracket 0 1 k 1)
-key_line k = seeds.key_line 0 1 k 1 false
 
 -- a step, and how many tokens it says
 abbrev Steps : State → ℕ → State → Type 0
@@ -88,8 +77,6 @@ stage_fewer ys l (at_bracket b) = at_bracket {xs = ys} (omega arith)
 stage_fewer {xs = xs} ys l (at_entry j m n o h) = at_entry j m n o (listed_fewer (before_entries j m n) xs ys l h)
 stage_fewer {xs = xs} ys l (at_comma j m c p n o h) = at_comma j m c p n o (listed_fewer (behind_seed j m c p n) xs ys l h)
 stage_fewer ys l (at_end m n o b) = at_end {xs = ys} m n o (omega arith)
-
--- a step
 
 goes : (k room : ℕ) (s t : State) (n used : ℕ) (xs : List Slot) (es : List Event) → step standard s ≡ got (goes_on es t) → Stage k t (waits n xs es)
     → Sheet k (after_news room n xs used (step standard s))

@@ -1,4 +1,4 @@
--- Every step keeps what StillKeys says, so it holds of every state that a run reaches, and KeysNear can read it off any of them.
+-- Theorems about specs/StillKeysSteps, and what rests on them.
 use Rattle.std.specs.Prelude.{◌+◌, ◌<◌, ◌≤◌, ℕ, Bool, false, true, List, [], ◌++◌, ◌∷◌, ◌⊎◌, ◌≡◌, refl, drop, length}
 use Rattle.std.proofs.Common.{inl, inr, ◌∙◌, ap, sym, arith, length-append, eq-eqb, ne_eqb}
 use Rattle.yaml_text.specs.declared.Mark.{Mark}
@@ -12,17 +12,20 @@ use Rattle.yaml_scan.specs.declared.Limits.{Limits}
 use Rattle.yaml_scan.specs.Keys.{set_key, top_key}
 use Rattle.yaml_scan.specs.State.{Event, News, State, block_ends, ends_with, goes_on, mark_of, put, put_before, puts, save_key}
 use Rattle.yaml_scan.specs.Slots.{Slot, note, slot, slots}
-use Rattle.yaml_scan.proofs.SlotLaws.{note_length, slots_append, slots_length}
+use Rattle.yaml_scan.specs.SlotLaws.{note_length, slots_append, slots_length}
 use Rattle.yaml_scan.specs.Scan.{begin, step}
 use Rattle.yaml_scan.specs.Candidates.{Fall, fall_less}
-use Rattle.yaml_scan.proofs.Runs.{StepsReach, here, puts_ends, then_step}
+use Rattle.yaml_scan.specs.Runs.{StepsReach, here, puts_ends, then_step}
 use Rattle.yaml_stream.specs.Stream.{possible}
 use Rattle.yaml_stream.specs.Kept.{puts_append}
-use Rattle.yaml_stream.proofs.Alone.{LastOf, not_outer, step_last}
-use Rattle.yaml_stream.proofs.Levels.{fall_not}
+use Rattle.yaml_stream.specs.Alone.{LastOf}
+use Rattle.yaml_stream.proofs.Alone.{not_outer, step_last}
+use Rattle.yaml_stream.specs.Levels.{fall_not}
 use Rattle.yaml_stream.specs.Orderly.{Part, block_scalar, colon, comma, is_scalar, key_token, line_scalar, list_start, mapping_start, may_be_key, other, part, part_of, property, sets_apart}
 use Rattle.yaml_stream.specs.StillKeys.{Added, Quiet, StillKeys, still_gap, still_more, still_note}
-use Rattle.yaml_stream.proofs.FetchLeaves.{FetchLeaves, Fillers, LeavesIn, StepLeaves, a_bracket, a_rest, a_text, a_use, end_fillers, step_leaves}
+use Rattle.yaml_stream.specs.FetchLeaves.{FetchLeaves, Fillers, LeavesIn, StepLeaves, a_bracket, a_rest, a_text, a_use, end_fillers}
+use Rattle.yaml_stream.proofs.FetchLeaves.{step_leaves}
+use Rattle.yaml_stream.specs.StillKeysSteps.{KeysSoFar, KeysSoFarIn}
 
 -- of a state and the slots so far
 abbrev StillKeysOf : State → List Slot → Type 0
@@ -52,8 +55,6 @@ part_laws other = (λ e. e, λ _. refl)
 not_yet_outer : (c : ℕ) (ks : List Candidate) → Fall c ks → possible c (drop 1 ks) ≡ false
 not_yet_outer c ks f = not_outer c ks (fall_not c c ks f (omega arith))
 
--- a token that leaves the candidates: an end of a block, or a filler
-
 fills_joins : (p : Part) → (p ≡ other) ⊎ (p ≡ mapping_start) → (sets_apart p ≡ false) × (is_scalar p ≡ false)
 unfolding sets_apart is_scalar
 fills_joins p (inl e) = rw e (refl, refl)
@@ -82,8 +83,6 @@ still_fillers v (put k ∷ es) ys g f h =
     still_fillers v es (ys ++ (slot k [] ∷ [])) g.1 (fall_less (length ys) _ v.keys (omega arith) f) (still_next ys k refl (fills_added v (length ys) k f g.0) h)
 still_fillers v (put_before n ts ∷ es) ys g f h = absurd g
 
--- a token that takes this level's candidate away, used or not
-
 rest_added : (v t : State) (c : ℕ) (k : Token) → Fall c v.keys → (mark_of v).line ≤ (mark_of t).line → may_be_key (part_of k) ≡ false
     → (part_of k ≡ colon → (t.simple_key_allowed ≡ false) ⊎ (v.simple_key_allowed ≡ true)) → ((i : ℕ) → possible i t.keys ≡ possible i (drop 1 v.keys)) → AddedTo v c k t
 unfolding may_be_key
@@ -102,8 +101,6 @@ rest_added v t c k f b m a g = record {
     by_allowed x (inl e) q = (omega (arith, q.0), inl e)
     by_allowed x (inr e) (c, inl d) = true_false (sym e ∙ d)
     by_allowed x (inr e) (c, inr d) = (omega arith, inr (omega arith))
-
--- a token that may be the next candidate
 
 -- it is this level's new one, or the candidates stay
 record Saves (v : State) (ks : List Candidate) : Type 0 where
@@ -179,8 +176,6 @@ bracket_added v t k f p m e =
     may (inl h) = rw h (refl, refl)
     may (inr h) = rw h (refl, refl)
 
--- a step
-
 top_possible : {required : Bool} {n : ℕ} {m : Mark} (ks : List Candidate) → top_key ks ≡ Possible required n m → possible n ks ≡ true
 unfolding possible top_key
 top_possible [] e = let z : ◌≡◌ {A = Bool} true false = cc in true_false z
@@ -206,12 +201,6 @@ fetched_still {v} {t} ys (a_rest fs k g m a e) f c b h =
     rw (slots_append ys fs (put k ∷ []))
     (still_next (slots ys fs) k refl (rest_added v t (length (slots ys fs)) k f' b m a (without_top v t e)) (still_fillers v fs ys g (rw c f) h))
 
--- what holds of a state and of all slots so far
-pub record KeysSoFar (s : State) (ys : List Slot) : Type 0 where
-  pub falls : Fall s.count s.keys
-  pub counted : length ys ≡ s.count
-  pub still : StillKeys s.keys s.simple_key_allowed (mark_of s).line 0 ys
-
 step_still : {s t : State} {es : List Event} (ys : List Slot) → KeysSoFar s ys → StepLeaves s es t → StillKeysOf t (slots ys es)
 step_still {s} {t} {es} ys h g =
     let v = g.before_token in
@@ -221,11 +210,6 @@ step_still {s} {t} {es} ys h g =
     let k = still_gap s.keys v.keys g.shrinks g.shrinks_outer g.calm g.line_on 0 ys h.still in
     rw (g.events, slots_append ys bs g.said)
     (fetched_still (slots ys bs) g.fetched f b g.line_behind (still_fillers v bs ys (end_fillers g.ended (mark_of v)) (rw h.counted (g.falls s.count h.falls)) k))
-
--- a step keeps it
-abbrev pub KeysSoFarIn : List Slot → News → Type 0
-KeysSoFarIn ys (goes_on es t) = KeysSoFar t (slots ys es)
-KeysSoFarIn ys (ends_with es) = Unit {0}
 
 pub step_keys : (limits : Limits) (s : State) (ys : List Slot) → KeysSoFar s ys → All News (KeysSoFarIn ys) (step limits s)
 unfolding puts

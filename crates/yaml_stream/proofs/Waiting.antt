@@ -1,7 +1,6 @@
--- In every stream that calls come to, at most 4,096 tokens wait before a scanning step; and where 51 is answered. (Behind a step: Tight.)
-use Rattle.std.specs.Prelude.{◌+◌, ◌≤◌, suc, zero, ℕ, Bool, false, not, true, List, [], ◌++◌, ◌∷◌, ◌⊎◌, ◌≡◌, refl, eqb, ltb, length}
+-- Theorems about specs/Waiting, and what rests on them.
+use Rattle.std.specs.Prelude.{◌+◌, ◌≤◌, suc, ℕ, false, true, List, [], ◌++◌, ◌∷◌, ◌⊎◌, ◌≡◌, refl, eqb, ltb, length}
 use Rattle.std.proofs.Common.{inl, inr, ◌∙◌, ap, sym, arith, eqb-true, ltb-false}
-use Rattle.yaml_text.specs.declared.Mark.{Mark}
 use Rattle.yaml_text.specs.Refusal.{got}
 use Rattle.yaml_text.specs.Test.{both_true, by_test, true_false}
 use Rattle.yaml_text.specs.All.{all_both, all_got}
@@ -11,42 +10,18 @@ use Rattle.yaml_scan.specs.declared.Candidate.TheVariants.{Absent, Possible}
 use Rattle.yaml_scan.specs.declared.Limits.{Limits}
 use Rattle.yaml_scan.specs.State.{Event, State, goes_on, mark_of, put}
 use Rattle.yaml_scan.specs.Scan.{step}
-use Rattle.yaml_scan.specs.Slots.{Slot, flat, slot, slots}
-use Rattle.yaml_scan.specs.Candidates.{Fall}
-use Rattle.yaml_scan.proofs.Budget.{on_news}
-use Rattle.yaml_stream.specs.Stream.{Next, Stream, after_news, behind, broken, budget, call, closing, crowded, ended, fresh, give, hear, most_waiting, on_answer, possible, ready, refusal, scanning, sought, spent, stepped, token, waits}
+use Rattle.yaml_scan.specs.Slots.{Slot, flat, slot}
+use Rattle.yaml_scan.specs.Budget.{on_news}
+use Rattle.yaml_stream.specs.Stream.{Stream, after_news, behind, crowded, fresh, give, most_waiting, possible, ready, scanning, stepped, waits}
 use Rattle.yaml_stream.specs.Kept.{From, step_keeps}
-use Rattle.yaml_stream.specs.Waits.{flat_length, from_next, waits_append, waits_length}
-use Rattle.yaml_stream.proofs.Changes.{behind_by, fresh_by, give_by, stepped_by}
-use Rattle.yaml_stream.proofs.Answers.{refused_stays}
-use Rattle.yaml_stream.specs.Depth.{depth, step_shallow}
-use Rattle.yaml_stream.proofs.Alone.{Absents, IsFirstKey, absents_not, holds_none, holds_possible, step_last}
-use Rattle.yaml_stream.proofs.Here.{Behind, Levelled, levelled_alone, step_behind, step_levelled}
-
--- the only token that may be a key is the last that waits, and nothing goes in before it yet
-pub record OnlyLastKey (s : State) (n : ℕ) (xs : List Slot) : Type 0 where
-  pub others : List Slot
-  pub last : Token
-  pub is : xs ≡ others ++ (slot last [] ∷ [])
-  pub later : From (n + length others) s.keys
-
-abbrev pub Few : State → ℕ → List Slot → Type 0
-Few s n xs = (length (flat xs) ≤ most_waiting) ⊎ OnlyLastKey s n xs
-
-pub record Held (limits : Limits) (s : State) (n : ℕ) (xs : List Slot) : Type 0 where
-  pub from : From n s.keys
-  pub counted : n + length xs ≡ s.count
-  pub falls : Fall s.count s.keys
-  pub shallow : depth s ≤ limits.entries
-  pub levelled : Levelled s.keys s.levels
-  pub few : Few s n xs
-
-abbrev pub StreamKeeps : Limits → Stream → Type 0
-StreamKeeps limits (scanning s n xs used) = Held limits s n xs
-StreamKeeps limits (closing xs) = Unit {0}
-StreamKeeps limits (broken k m) = Unit {0}
-
--- before a step
+use Rattle.yaml_stream.specs.Waits.{flat_length, from_next, waits_length}
+use Rattle.yaml_stream.specs.Changes.{behind_by, stepped_by}
+use Rattle.yaml_stream.proofs.Changes.{give_by}
+use Rattle.yaml_stream.specs.Depth.{step_shallow}
+use Rattle.yaml_stream.specs.Alone.{Absents, IsFirstKey, absents_not, holds_none, holds_possible}
+use Rattle.yaml_stream.proofs.Alone.{step_last}
+use Rattle.yaml_stream.specs.Here.{Behind, levelled_alone, step_behind, step_levelled}
+use Rattle.yaml_stream.specs.Waiting.{Few, Held, StreamKeeps, not_false, waits_then, fresh_keeps, StreamReaches, reaches_by}
 
 from_possible : (k n : ℕ) (ks : List Candidate) → From k ks → possible n ks ≡ true → k ≤ n
 unfolding possible
@@ -56,10 +31,6 @@ from_possible k n (Possible required j m ∷ ks) h e =
     by_test (eqb n j)
     (λ i. let g = eqb-true n j i in omega (arith, h.0))
     (λ i. from_possible k n ks h.1 (rw i at e))
-
-pub not_false : (b : Bool) → not b ≡ false → b ≡ true
-not_false true e = refl
-not_false false e = true_false e
 
 one_waits : (n : ℕ) (s : State) (xs others : List Slot) (last : Token) → xs ≡ others ++ (slot last [] ∷ []) → n + length others ≤ n → length (flat xs) ≤ most_waiting
 unfolding flat
@@ -90,8 +61,6 @@ holds_before {s = s} {n = n} {xs = xs} used h r = by_slots xs refl
         holds_none n s.keys h.from (rw f at h.falls)
     by_slots (y ∷ ys) e = holds_possible n s.count s.keys h.from h.falls (not_false (possible n s.keys) (rw e at r))
 
--- a step
-
 not_crowded : (s : State) (n : ℕ) (xs : List Slot) → crowded s n xs ≡ false → possible n s.keys ≡ true → length (flat xs) ≤ most_waiting
 unfolding crowded
 not_crowded s n xs e p =
@@ -106,11 +75,6 @@ few_behind : (s : State) (n k : ℕ) (xs others : List Slot) (last : Token) → 
     → (possible n s.keys ≡ true) ⊎ From k s.keys → Few s n xs
 few_behind s n k xs others last e f c (inl p) = inl (not_crowded s n xs c p)
 few_behind s n k xs others last e f c (inr h) = inr (record { others = others; last = last; is = e; later = rw f at h })
-
--- the last token of events is the last that waits, and nothing goes in before it yet
-pub waits_then : (n : ℕ) (xs : List Slot) (es front : List Event) (last : Token) → es ≡ front ++ (put last ∷ []) → waits n xs es ≡ waits n xs front ++ (slot last [] ∷ [])
-unfolding waits slots
-waits_then n xs es front last e = ap (λ (fs : List Event). waits n xs fs) e ∙ waits_append n xs front (put last ∷ [])
 
 scanned_keeps : (limits : Limits) (room : ℕ) (s : State) (n : ℕ) (xs : List Slot) (used : ℕ) → Held limits s n xs → ready (scanning s n xs used) ≡ false
     → StreamKeeps limits (after_news room n xs used (step limits s))
@@ -133,8 +97,6 @@ scanned_keeps limits room s n xs used h r =
 
 pub stepped_keeps : (limits : Limits) (room : ℕ) (x : Stream) → StreamKeeps limits x → ready x ≡ false → StreamKeeps limits (stepped limits room x)
 stepped_keeps limits room x h r = stepped_by (StreamKeeps limits) limits room (λ s n xs used k e. scanned_keeps limits room s n xs used k e) x h r
-
--- a token is given
 
 few_given : (s : State) (n : ℕ) (t : Token) (xs : List Slot) → Few s n (slot t [] ∷ xs) → Few s (suc n) xs
 unfolding flat
@@ -177,54 +139,8 @@ give_keeps limits x h =
     })
     (λ b bs t xs k. tt) (λ t xs k. tt) x h
 
--- a fresh state
-pub fresh_keeps : (limits : Limits) (bytes : List ℕ) (words : ℕ) → StreamKeeps limits (fresh limits bytes words)
-unfolding flat
-fresh_keeps limits bytes words =
-    fresh_by (StreamKeeps limits) limits bytes words tt tt (λ k m. tt)
-    (λ cs _. record { from = tt; counted = refl; falls = tt; shallow = omega arith; levelled = refl; few = inl (omega arith) })
-
--- the streams that calls come to, within them too: a step where the first waiting token is none yet, or a possible key; else a token is given
-pub data StreamReaches (limits : Limits) (room : ℕ) (x : Stream) : Stream → Type 0 where
-  here : StreamReaches limits room x x
-  then_step : {y : Stream} → StreamReaches limits room x y → ready y ≡ false → StreamReaches limits room x (stepped limits room y)
-  then_give : {y : Stream} → StreamReaches limits room x y → StreamReaches limits room x (give y).stream
-
--- what a step and a gift keep holds of all of them
-pub reaches_by : (P : Stream → Type 0) (limits : Limits) (room : ℕ) {x y : Stream} → ((z : Stream) → P z → ready z ≡ false → P (stepped limits room z))
-    → ((z : Stream) → P z → P (give z).stream) → P x → StreamReaches limits room x y → P y
-reaches_by P limits room f g h here = h
-reaches_by P limits room f g h (then_step {y = y} r e) = f y (reaches_by P limits room f g h r) e
-reaches_by P limits room f g h (then_give {y = y} r) = g y (reaches_by P limits room f g h r)
-
 pub reaches_keeps : (limits : Limits) (room : ℕ) {x y : Stream} → StreamKeeps limits x → StreamReaches limits room x y → StreamKeeps limits y
 reaches_keeps limits room h r = reaches_by (StreamKeeps limits) limits room (λ z k e. stepped_keeps limits room z k e) (λ z k. give_keeps limits z k) h r
-
--- a call is such steps and then a gift
-pub sought_reaches : (limits : Limits) (room k : ℕ) {x : Stream} (y : Stream) → StreamReaches limits room x y → StreamReaches limits room x (sought limits room k y)
-unfolding sought
-sought_reaches limits room zero y r = r
-sought_reaches limits room (suc k) y r =
-    by_test (ready y) (λ e. rw (e, sought) r) (λ e. rw (e, sought) (sought_reaches limits room k (stepped limits room y) (then_step r e)))
-
-pub call_reaches : (limits : Limits) (room : ℕ) {x : Stream} (y : Stream) → StreamReaches limits room x y → StreamReaches limits room x (call limits room y).stream
-unfolding call
-call_reaches limits room y r = then_give (sought_reaches limits room (budget y) y r)
-
--- a refusal heard is that of a stream that the calls come to
-pub hear_breaks : (limits : Limits) (room k : ℕ) {w : Stream} (x : Stream) (n : ℕ) (m : Mark) → StreamReaches limits room w x → (hear limits room k x).last ≡ refusal n m
-    → StreamReaches limits room w (broken n m)
-unfolding hear
-hear_breaks limits room zero x n m r e = let z : ◌≡◌ {A = ℕ} 0 1 = cc in absurd (omega arith)
-hear_breaks limits room (suc k) {w} x n m r e =
-    by_answer (call limits room x).answer refl (λ f. hear_breaks limits room k (call limits room x).stream n m (call_reaches limits room x r) f) e
-  where
-    by_answer : (a : Next) → (call limits room x).answer ≡ a → ((hear limits room k (call limits room x).stream).last ≡ refusal n m → StreamReaches limits room w (broken n m))
-        → (on_answer a (call limits room x).stream (λ y. hear limits room k y)).last ≡ refusal n m → StreamReaches limits room w (broken n m)
-    by_answer (token t) i h f = h f
-    by_answer ended i h f = let z : ◌≡◌ {A = ℕ} 0 1 = cc in absurd (omega arith)
-    by_answer (refusal j p) i h f = rw (refused_stays limits room x n m (i ∙ f)) at (call_reaches limits room x r)
-    by_answer spent i h f = let z : ◌≡◌ {A = ℕ} 0 1 = cc in absurd (omega arith)
 
 -- before each scanning step at most 4,096 tokens wait
 pub waiting_before : (limits : Limits) (bytes : List ℕ) (words room : ℕ) {s : State} {n used : ℕ} {xs : List Slot}

@@ -18,9 +18,10 @@ use Rattle.yaml_scan.specs.Bracket.{implicit_open}
 use Rattle.yaml_scan.specs.Document.{all_ends}
 use Rattle.yaml_scan.specs.Scan.{step, unrolled}
 use Rattle.yaml_scan.specs.Candidates.{OnlyPuts, only_append, only_ends, only_if}
-use Rattle.yaml_scan.proofs.Runs.{puts_ends}
+use Rattle.yaml_scan.specs.Runs.{puts_ends}
 use Rattle.yaml_scan.specs.Moves.{Move, Moves, begins, block_start, closes, leaves, opens, pair_end, parts, tells, uses}
-use Rattle.yaml_scan.proofs.Steps.{Gapped, Takes, gapped, inside, lapses, stays, step_by, unrolled_state}
+use Rattle.yaml_scan.specs.Steps.{Gapped, Takes, gapped, inside, lapses, stays, unrolled_state}
+use Rattle.yaml_scan.proofs.Steps.{step_by}
 
 -- the candidates name such tokens
 abbrev pub Names : (ℕ → Type 0) → List Candidate → Type 0

@@ -18,10 +18,11 @@ use Rattle.yaml_scan.specs.Bracket.{implicit_open}
 use Rattle.yaml_scan.specs.Document.{all_ends}
 use Rattle.yaml_scan.specs.Slots.{Slot, flat, note, slot, slots, tokens_of}
 use Rattle.yaml_scan.specs.Scan.{begin, step, unrolled}
-use Rattle.yaml_scan.proofs.Budget.{on_news}
-use Rattle.yaml_scan.proofs.SlotLaws.{flat_append, slots_append}
+use Rattle.yaml_scan.specs.Budget.{on_news}
+use Rattle.yaml_scan.specs.SlotLaws.{flat_append, slots_append}
 use Rattle.yaml_scan.specs.Moves.{Move, Moves, begins, block_start, bracket, closes, goes_in, leaves, opens, pair_end, parts, tells, uses}
-use Rattle.yaml_scan.proofs.Steps.{Gapped, Takes, step_by, unrolled_state}
+use Rattle.yaml_scan.specs.Steps.{Gapped, Takes, unrolled_state}
+use Rattle.yaml_scan.proofs.Steps.{step_by}
 use Rattle.yaml_stream.specs.Tale.{Close, at_end, built, in_step, tale, text_tale, told, told_of}
 
 abbrev NotEnd : Token → Type 0

@@ -16,10 +16,11 @@ use Rattle.yaml_scan.specs.Bracket.{implicit_open}
 use Rattle.yaml_scan.specs.Document.{all_ends}
 use Rattle.yaml_scan.specs.Scan.{step, unrolled}
 use Rattle.yaml_scan.specs.Slots.{Slot, flat, note, slot, slots}
-use Rattle.yaml_scan.proofs.SlotLaws.{SlotsHold, holds_more, holds_noted, total}
+use Rattle.yaml_scan.specs.SlotLaws.{SlotsHold, holds_more, holds_noted, total}
 use Rattle.yaml_scan.specs.Candidates.{EmptyAt, Free, GivenToken, OnlyPuts, Placed, fresh, given, note_at, only_append, only_ends, only_if, only_one}
 use Rattle.yaml_scan.specs.Moves.{Move, Moves, begins, block_start, closes, goes_in, leaves, opens, pair_end, parts, tells, uses}
-use Rattle.yaml_scan.proofs.Steps.{Gapped, Takes, step_by, unrolled_state}
+use Rattle.yaml_scan.specs.Steps.{Gapped, Takes, unrolled_state}
+use Rattle.yaml_scan.proofs.Steps.{step_by}
 use Rattle.yaml_stream.specs.Stream.{counted_from}
 use Rattle.yaml_stream.specs.Kept.{NotesFrom}
 use Rattle.yaml_stream.specs.Waits.{flat_length}

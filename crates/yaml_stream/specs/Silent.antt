@@ -18,9 +18,10 @@ use Rattle.yaml_scan.specs.Document.{all_ends}
 use Rattle.yaml_scan.specs.Scan.{begin, step, unrolled}
 use Rattle.yaml_scan.specs.Slots.{Slot, flat, note, slot, slots, tokens_of}
 use Rattle.yaml_scan.specs.Candidates.{OnlyPuts, only_append, only_ends, only_if, only_one}
-use Rattle.yaml_scan.proofs.Budget.{on_news}
+use Rattle.yaml_scan.specs.Budget.{on_news}
 use Rattle.yaml_scan.specs.Moves.{Move, Moves, begins, block_start, closes, goes_in, leaves, opens, pair_end, parts, tells, uses}
-use Rattle.yaml_scan.proofs.Steps.{Gapped, Takes, step_by, unrolled_state}
+use Rattle.yaml_scan.specs.Steps.{Gapped, Takes, unrolled_state}
+use Rattle.yaml_scan.proofs.Steps.{step_by}
 use Rattle.yaml_stream.specs.Stream.{brings}
 use Rattle.yaml_stream.specs.Tale.{built, in_step, tale, told, told_of}
 use Rattle.yaml_stream.specs.Sizes.{brings_append, core, core_slots, texts_append}

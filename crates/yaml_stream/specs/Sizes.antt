@@ -2,7 +2,7 @@
 use Rattle.std.specs.Prelude.{◌+◌, ◌≤◌, suc, zero, ℕ, List, [], ◌++◌, ◌∷◌, ◌≡◌, refl, length}
 use Rattle.std.proofs.Common.{append_assoc, ap, le_refl, arith, length-append}
 use Rattle.yaml_text.specs.Mark.{origin}
-use Rattle.yaml_text.proofs.DecodeLaws.{NoNul}
+use Rattle.yaml_text.specs.DecodeLaws.{NoNul}
 use Rattle.yaml_lexeme.specs.Token.{Token, texts, token_bytes}
 use Rattle.yaml_scan.specs.declared.Limits.{Limits}
 use Rattle.yaml_scan.specs.State.{Event, State, put, put_before}
@@ -10,8 +10,9 @@ use Rattle.yaml_scan.specs.Scan.{begin}
 use Rattle.yaml_scan.specs.Slots.{Slot, flat, note, slot, slots, tokens_of}
 use Rattle.yaml_scan.specs.Candidates.{GivenToken, Placed, Sound, fresh, given, placed_append}
 use Rattle.yaml_scan.proofs.Runs.{step_news}
-use Rattle.yaml_scan.proofs.Budget.{begin_sound, on_news}
-use Rattle.yaml_scan.proofs.SlotLaws.{tokens_total, total}
+use Rattle.yaml_scan.specs.Budget.{begin_sound, on_news}
+use Rattle.yaml_scan.specs.SlotLaws.{total}
+use Rattle.yaml_scan.proofs.SlotLaws.{tokens_total}
 use Rattle.yaml_stream.specs.Stream.{brings}
 use Rattle.yaml_stream.specs.Tale.{in_step, tale, text_tale}
 

@@ -6,7 +6,7 @@ use Rattle.yaml_text.specs.Mark.{Place}
 use Rattle.yaml_text.specs.Refusal.{got}
 use Rattle.yaml_text.specs.Test.{by_pick, by_test, true_false}
 use Rattle.yaml_text.specs.All.{All, all_bind, all_both, all_need, holds}
-use Rattle.yaml_text.proofs.PlaceLaws.{FurtherOn, fits_left}
+use Rattle.yaml_text.specs.PlaceLaws.{FurtherOn, fits_left}
 use Rattle.yaml_lexeme.specs.Token.{Token}
 use Rattle.yaml_lexeme.specs.Fits.{skip_gap_fit}
 use Rattle.yaml_scan.specs.declared.Candidate.{Candidate}
@@ -20,9 +20,11 @@ use Rattle.yaml_scan.specs.State.{Event, News, State, allow, at_place, block_end
 use Rattle.yaml_scan.specs.Bracket.{closes_level}
 use Rattle.yaml_scan.specs.Choice.{choice}
 use Rattle.yaml_scan.specs.Scan.{step, to_next_token, unrolled}
-use Rattle.yaml_scan.proofs.Runs.{TakesOrEnds, next_news}
+use Rattle.yaml_scan.specs.Runs.{TakesOrEnds}
+use Rattle.yaml_scan.proofs.Runs.{next_news}
 use Rattle.yaml_scan.specs.Moves.{Begins, Move, Moves, begins, closes, leaves, opens, parts, tells, uses}
-use Rattle.yaml_scan.proofs.Steps.{next_moves, unrolled_blocks, unrolled_state}
+use Rattle.yaml_scan.specs.Steps.{unrolled_state}
+use Rattle.yaml_scan.proofs.Steps.{next_moves, unrolled_blocks}
 use Rattle.yaml_stream.specs.Waits.{or_false}
 use Rattle.yaml_stream.specs.Depth.{depth, gap_depth, unrolled_depth}
 use Rattle.yaml_stream.specs.Totals.{blocks_depth}

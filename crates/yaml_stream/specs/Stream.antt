@@ -4,7 +4,7 @@ use Rattle.yaml_text.specs.declared.Mark.{Mark}
 use Rattle.yaml_text.specs.Mark.{origin}
 use Rattle.yaml_text.specs.Refusal.{Read, got, refused}
 use Rattle.yaml_text.specs.Decode.{decode}
-use Rattle.yaml_text.proofs.PlaceLaws.{left}
+use Rattle.yaml_text.specs.PlaceLaws.{left}
 use Rattle.yaml_lexeme.specs.Token.{StreamStart, Token, empty_token, token_bytes}
 use Rattle.yaml_lexeme.specs.Record.{record_words}
 use Rattle.yaml_scan.specs.declared.Candidate.{Candidate}

@@ -11,7 +11,7 @@ use Rattle.yaml_scan.specs.declared.Limits.{Limits}
 use Rattle.yaml_scan.specs.State.{Event, News, State, ends_with, goes_on, put}
 use Rattle.yaml_scan.specs.Scan.{Outcome, after_events, after_step, begin, outcome, run, scan, scanned, spent, step, stopped}
 use Rattle.yaml_scan.specs.Slots.{tokens_of}
-use Rattle.yaml_scan.proofs.Budget.{on_news}
+use Rattle.yaml_scan.specs.Budget.{on_news}
 use Rattle.yaml_stream.specs.Kept.{From, Names, NotesAt, NotesFrom, notes_both, step_names}
 
 -- how a run ends

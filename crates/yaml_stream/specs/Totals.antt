@@ -9,9 +9,9 @@ use Rattle.yaml_scan.specs.declared.Level.{Level}
 use Rattle.yaml_scan.specs.Indent.{Entry, Rolled}
 use Rattle.yaml_scan.specs.IndentLaws.{open_blocks}
 use Rattle.yaml_scan.specs.State.{Event, State, block_ends, empty_if, in_flow, put}
-use Rattle.yaml_scan.proofs.SlotLaws.{total}
+use Rattle.yaml_scan.specs.SlotLaws.{total}
 use Rattle.yaml_scan.specs.Moves.{Begins, goes_in}
-use Rattle.yaml_scan.proofs.Steps.{one_most}
+use Rattle.yaml_scan.specs.Steps.{one_most}
 use Rattle.yaml_stream.specs.Sizes.{total_append}
 
 pub total_ends : (n : ℕ) (m : Mark) → total (block_ends n m) ≡ n

@@ -9,7 +9,7 @@ use Rattle.yaml_scan.specs.declared.Candidate.{Candidate}
 use Rattle.yaml_scan.specs.declared.Candidate.TheVariants.{Absent, Possible}
 use Rattle.yaml_scan.specs.State.{Event, put, put_before, puts}
 use Rattle.yaml_scan.specs.Slots.{Slot, flat, note, slot, slots}
-use Rattle.yaml_scan.proofs.SlotLaws.{flat_more, slots_append, slots_length, total}
+use Rattle.yaml_scan.specs.SlotLaws.{flat_more, slots_append, slots_length, total}
 use Rattle.yaml_stream.specs.Stream.{counted_from, possible, waits}
 use Rattle.yaml_stream.specs.Kept.{From, NotesFrom, notes_less}
 

@@ -1,17 +1,14 @@
--- Laws for code that looks at bytes: what a byte below 128 says of the characters.
+-- Theorems about specs/ByteLaws, and what rests on them.
 use Rattle.std.specs.Prelude.{◌<◌, ◌≤◌, ℕ, Bool, false, List, [], ◌∷◌, ◌≡◌, refl, ltb, get_or, length, take}
-use Rattle.std.proofs.Common.{◌∙◌, ap, sym, arith, lt-ltb, ltb-false, ltb-true}
+use Rattle.std.proofs.Common.{◌∙◌, ap, sym, arith, ltb-false, ltb-true}
 use Rattle.yaml_text.specs.declared.Decoded.{Decoded}
 use Rattle.yaml_text.specs.declared.Decoded.TheVariants.{Char, End, Ill}
-use Rattle.yaml_text.specs.Utf8.{by_len, char_bytes, chars, chars_after, first, len_of, more}
+use Rattle.yaml_text.specs.Utf8.{char_bytes, chars, chars_after, first, more}
 use Rattle.yaml_text.specs.Class.{peek}
 use Rattle.yaml_text.specs.Test.{by_test}
-use Rattle.yaml_text.proofs.Utf8Laws.{bytes1, chars_next, first_bytes}
-
--- a byte below 128 is a character
-pub first_ascii : (a : ℕ) (t : List ℕ) → a < 128 → first (a ∷ t) ≡ Char a 1
-unfolding first len_of by_len
-first_ascii a t h = rw (lt-ltb a 128 h)
+use Rattle.yaml_text.specs.Utf8Laws.{bytes1}
+use Rattle.yaml_text.proofs.Utf8Laws.{chars_next, first_bytes}
+use Rattle.yaml_text.specs.ByteLaws.{first_ascii}
 
 pub chars_ascii : (a : ℕ) (t : List ℕ) → a < 128 → chars (a ∷ t) ≡ a ∷ chars t
 chars_ascii a t h = chars_next (a ∷ t) a 1 (first_ascii a t h)

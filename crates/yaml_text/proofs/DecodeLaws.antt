@@ -1,6 +1,6 @@
--- The characters that are scanned: they are those of the bytes, they encode to the bytes, and none is 0, which stands for the end.
-use Rattle.std.specs.Prelude.{◌<◌, suc, zero, ℕ, false, not, List, [], ◌∷◌, ◌≡◌, refl, drop, length}
-use Rattle.std.proofs.Common.{not-suc-le-zero, arith, take-append-drop}
+-- Theorems about specs/DecodeLaws, and what rests on them.
+use Rattle.std.specs.Prelude.{suc, zero, ℕ, not, List, [], ◌∷◌, ◌≡◌, refl}
+use Rattle.std.proofs.Common.{arith, take-append-drop}
 use Rattle.std.proofs.lemmas.Bool.{not-true}
 use Rattle.yaml_text.specs.declared.Decoded.{Decoded}
 use Rattle.yaml_text.specs.declared.Decoded.TheVariants.{Char, End, Ill}
@@ -12,27 +12,7 @@ use Rattle.yaml_text.specs.Refusal.{Read, got}
 use Rattle.yaml_text.specs.Decode.{decode, decoded_char}
 use Rattle.yaml_text.specs.All.{All, all_bind, all_got, all_test, all_weak, holds, not_read}
 use Rattle.yaml_text.proofs.Utf8Laws.{first_bytes, first_fits}
-
--- no character is 0
-abbrev pub NoNul : List ℕ → Type 0
-NoNul [] = Unit {0}
-NoNul (c ∷ cs) = (is_z c ≡ false) × NoNul cs
-
-pub no_nul_at : (cs : List ℕ) (i : ℕ) → NoNul cs → i < length cs → is_z (peek cs i) ≡ false
-no_nul_at [] i h k = absurd (not-suc-le-zero k)
-no_nul_at (c ∷ cs) zero h k = h.0
-no_nul_at (c ∷ cs) (suc i) h k = no_nul_at cs i h.1 (omega arith)
-
-pub no_nul_drop : (n : ℕ) (cs : List ℕ) → NoNul cs → NoNul (drop n cs)
-no_nul_drop zero cs h = h
-no_nul_drop (suc n) [] h = tt
-no_nul_drop (suc n) (c ∷ cs) h = no_nul_drop n cs h.1
-
--- what the characters cs of the bytes l are, k bytes being passed over first
-pub record Decodes (k : ℕ) (l cs : List ℕ) : Type 0 where
-  pub same : cs ≡ chars_after k l
-  pub bytes : encode cs ≡ drop k l
-  pub no_nul : NoNul cs
+use Rattle.yaml_text.specs.DecodeLaws.{Decodes}
 
 decoded_char_is : (d : Decoded) (m : Mark) (a : ℕ) (t : List ℕ) (go : ℕ → ℕ → Read (List ℕ)) → first (a ∷ t) ≡ d
     → ((c n : ℕ) → All (List ℕ) (Decodes n t) (go c n)) → All (List ℕ) (Decodes 0 (a ∷ t)) (decoded_char d m go)

@@ -1,5 +1,4 @@
-pub mod ByteLaws
-pub mod DecodeLaws
-pub mod PlaceLaws
-pub mod Utf8Both
 pub mod Utf8Laws
+pub mod ByteLaws
+pub mod Utf8Both
+pub mod DecodeLaws

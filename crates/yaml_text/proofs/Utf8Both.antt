@@ -1,5 +1,4 @@
--- UTF-8 both ways: the encoding of every scalar value is read back as that character and nothing else, and the characters of bytes encode to the bytes
--- that they were read from, up to the first place where none begins.
+-- Theorems about specs/Utf8Both, and what rests on them.
 use Rattle.std.specs.Prelude.{◌%◌, ◌*◌, ◌+◌, ◌/◌, ◌<◌, ◌≤◌, suc, zero, ℕ, true, List, [], ◌++◌, ◌∷◌, ◌≡◌, refl, ltb, drop, length, take}
 use Rattle.std.proofs.Common.{◌∙◌, ap, arith, take-add, le-leb, le-ltb, lt-ltb, ltb-false, ltb-true}
 use Rattle.std.proofs.Math.Seq.{drop-append_seam, take-length}
@@ -7,10 +6,10 @@ use Rattle.yaml_text.specs.declared.Decoded.{Decoded}
 use Rattle.yaml_text.specs.declared.Decoded.TheVariants.{Char, End, Ill}
 use Rattle.yaml_text.specs.Utf8.{by_len, char_bytes, chars, chars_after, encode, first, four, is_scalar, is_tail, len_of, more, three, two}
 use Rattle.yaml_text.specs.Test.{by_test}
-use Rattle.yaml_text.proofs.Utf8Laws.{chars_next, first_bytes, first_fits, good, good_after, good_step, scalar_inv}
-use Rattle.yaml_text.proofs.ByteLaws.{first_ascii}
-
--- a scalar value is read back
+use Rattle.yaml_text.specs.Utf8Laws.{good, good_after, good_step, scalar_inv}
+use Rattle.yaml_text.proofs.Utf8Laws.{chars_next, first_bytes, first_fits}
+use Rattle.yaml_text.specs.ByteLaws.{first_ascii}
+use Rattle.yaml_text.specs.Utf8Both.{Scalars}
 
 scalar_from : (lo c : ℕ) → is_scalar 0 c ≡ true → lo ≤ c → is_scalar lo c ≡ true
 unfolding is_scalar
@@ -85,19 +84,12 @@ read_back c l s =
     rw (e, f, g) (four_is (240 + c / 262144) (128 + c / 4096 % 64) (128 + c / 64 % 64) (128 + c % 64) c l (omega arith) (omega arith)
     (tail_of (c / 4096)) (tail_of (c / 64)) (tail_of c) (from_four c h.1) (scalar_from 0x10000 c s (ltb-false c 0x10000 g))))))
 
--- each of the list is a scalar value
-abbrev pub Scalars : List ℕ → Type 0
-Scalars [] = Unit {0}
-Scalars (c ∷ cs) = (is_scalar 0 c ≡ true) × Scalars cs
-
 pub chars_encode : (cs : List ℕ) → Scalars cs → chars (encode cs) ≡ cs
 unfolding encode chars_after
 chars_encode [] h = refl
 chars_encode (c ∷ cs) h =
     chars_next (char_bytes c ++ encode cs) c (length (char_bytes c)) (read_back c (encode cs) h.0)
     ∙ ap (λ (l : List ℕ). c ∷ l) (rw (drop-append_seam (char_bytes c) (encode cs)) (chars_encode cs h.1))
-
--- the bytes of the characters are the bytes that they were read from
 
 encode_step : (d : Decoded) (a : ℕ) (t : List ℕ) → first (a ∷ t) ≡ d → ((n : ℕ) → encode (chars_after n t) ≡ take (good_after n t) (drop n t))
     → encode (more d (λ n. chars_after n t)) ≡ take (good_step d (λ n. good_after n t)) (a ∷ t)

@@ -8,4 +8,9 @@ pub mod Decode
 pub mod Test
 pub mod All
 pub mod Utf8Examples
+pub mod Utf8Laws
+pub mod ByteLaws
+pub mod Utf8Both
 pub mod MarkLaws
+pub mod DecodeLaws
+pub mod PlaceLaws

@@ -2,7 +2,7 @@ use Prim.Native.Nat.{◌<◌, ℕ}
 use mathlib.Core.List.{List, ◌++◌}
 use mathlib.Core.Path.{◌∙◌}
 use lib.ListN.{drop}
-use Rattle.yaml_text.proofs.PlaceLaws.{left}
+use Rattle.yaml_text.specs.PlaceLaws.{left}
 use Rattle.chars.specs.View.{view}
 use Rattle.stacks.specs.Stack.{stack_words}
 use Rattle.driver.proofs.Leaving.{LengthsKept}

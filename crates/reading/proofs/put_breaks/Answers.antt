@@ -1,6 +1,5 @@
 -- One store a turn: what is left to store gives the whole.
-use Prim.Native.Nat.{◌-◌}
-use Rattle.reading.proofs.Laws.{Breaking, breaks_done, breaks_more, breaks_start}
+use Rattle.reading.proofs.Laws.{breaks_done, breaks_more, breaks_start}
 use Rattle.reading.proofs.put_breaks.Goals as goal
 
 pub loop-i-init : goal.loop-i-init

@@ -1,5 +1,5 @@
 use Prim.Native.Nat.{◌-◌}
-use Rattle.reading.proofs.Laws.{Breaking, breaks_done, breaks_more, breaks_start}
+use Rattle.reading.proofs.Laws.{Breaking}
 use Rattle.reading.proofs.put_breaks.Given as goal
 
 abbrev pub invariant-loop-i : goal.invariant-loop-i

@@ -9,7 +9,8 @@ returns c =
     let a = c.args in
     let h = c.read_hex-n in
     let e = c.enough_words-room.ensures in
-    let p = c.put_vector.ensures in (
-      line_written a.line.now _ _ a.words.now _ _ _ (length a.bytes.now) (array_length 40960 0) h.ensures e p.0,
-      line_fits a.line.now _ _ a.words.now _ _ _ (length a.bytes.now) (array_length 40960 0) h.ensures e _ p.1,
-    )
+    let p = c.put_vector.ensures in
+    record {
+      written = line_written a.line.now _ _ a.words.now _ _ _ (length a.bytes.now) (array_length 40960 0) h.ensures e p.written;
+      upper_bound = line_fits a.line.now _ _ a.words.now _ _ _ (length a.bytes.now) (array_length 40960 0) h.ensures e _ p.upper_bound;
+    }

@@ -7,7 +7,7 @@ pub put_accepted-requires : goal.put_accepted-requires
 put_accepted-requires c =
     let r = c.scan-a in
     let h = accepted_fits _ c.args.text.now _ _ _ _ _ _ r.ensures c.in-Accepted.is in
-    omega (arith, h, r.auto.1.0, r.auto.1.1.0, c.put_head-n.ensures.value, c.requires)
+    omega (arith, h, r.auto.words, r.auto.bytes, c.put_head-n.ensures.value, c.requires)
 
 pub returns-in-Accepted : goal.returns-in-Accepted
 returns-in-Accepted c =
@@ -16,7 +16,10 @@ returns-in-Accepted c =
     let e = c.in-Accepted.is in
     let h = c.put_head-n.ensures in
     let p = c.put_accepted.ensures in
-    (accepted_line _ a.text.now _ _ _ _ s.ensures e h.0 p.0, omega (arith, accepted_fits _ a.text.now _ _ _ _ _ _ s.ensures e, h.1, p.1))
+    record {
+      written = accepted_line _ a.text.now _ _ _ _ s.ensures e h.written p.written;
+      upper_bound = omega (arith, accepted_fits _ a.text.now _ _ _ _ _ _ s.ensures e, h.value, p.upper_bound);
+    }
 
 pub returns-in-Refused : goal.returns-in-Refused
 returns-in-Refused c =
@@ -25,4 +28,4 @@ returns-in-Refused c =
     let e = c.in-Refused.is in
     let h = c.put_head-n.ensures in
     let p = c.put_refused.ensures in
-    (refused_line _ a.text.now _ _ _ _ s.ensures e h.0 p.0, omega (arith, h.1, p.1))
+    record { written = refused_line _ a.text.now _ _ _ _ s.ensures e h.written p.written; upper_bound = omega (arith, h.value, p.upper_bound) }

@@ -1,8 +1,6 @@
 -- The invariant: clearing from here on gives what clearing the whole gives.
-use Prim.Native.Nat.{◌-◌}
 use mathlib.Core.Path.{refl}
-use lib.ListN.{length}
-use Rattle.rooms.specs.Room.{Clearing, cleared_done, cleared_more}
+use Rattle.rooms.specs.Room.{cleared_done, cleared_more}
 use Rattle.rooms.proofs.clear_words_from.Goals as goal
 
 pub loop-i-init : goal.loop-i-init

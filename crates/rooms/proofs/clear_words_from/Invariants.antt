@@ -1,7 +1,6 @@
 use Prim.Native.Nat.{◌-◌}
-use mathlib.Core.Path.{refl}
 use lib.ListN.{length}
-use Rattle.rooms.specs.Room.{Clearing, cleared_done, cleared_more}
+use Rattle.rooms.specs.Room.{Clearing}
 use Rattle.rooms.proofs.clear_words_from.Given as goal
 
 abbrev pub invariant-loop-i : goal.invariant-loop-i

@@ -1,10 +1,8 @@
 -- The invariant: what is left of the text, stored behind what was copied, gives the whole.
-use Prim.Native.Nat.{◌+◌, ◌-◌}
-use mathlib.Core.Path.{◌∙◌, ◌≡◌, refl, sym}
+use mathlib.Core.Path.{◌∙◌, refl, sym}
 use native.Mathlib.Nat.{add-zero}
 use native.Mathlib.Omega.{arith}
-use lib.ListN.{drop, length, length-set}
-use lib.Seq.{sets}
+use lib.ListN.{length-set}
 use Rattle.rooms.specs.Room.{sets_more, sets_none}
 use Rattle.rooms.proofs.copy.Goals as goal
 

@@ -1,10 +1,7 @@
 use Prim.Native.Nat.{◌+◌, ◌-◌}
-use mathlib.Core.Path.{◌∙◌, ◌≡◌, refl, sym}
-use native.Mathlib.Nat.{add-zero}
-use native.Mathlib.Omega.{arith}
-use lib.ListN.{drop, length, length-set}
+use mathlib.Core.Path.{◌≡◌}
+use lib.ListN.{drop, length}
 use lib.Seq.{sets}
-use Rattle.rooms.specs.Room.{sets_more, sets_none}
 use Rattle.rooms.proofs.copy.Given as goal
 
 abbrev pub invariant-loop-i : goal.invariant-loop-i

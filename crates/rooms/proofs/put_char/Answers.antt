@@ -1,6 +1,6 @@
 -- The bytes of each length are those of the definition, stored one behind the other.
 use mathlib.Core.List.{[], ◌∷◌}
-use Rattle.yaml_text.proofs.Utf8Laws.{bytes1}
+use Rattle.yaml_text.specs.Utf8Laws.{bytes1}
 use Rattle.rooms.specs.Room.{sets_snoc}
 use Rattle.rooms.proofs.Bytes.{four_bytes, three_bytes, two_bytes, wrote}
 use Rattle.rooms.proofs.put_char.Goals as goal

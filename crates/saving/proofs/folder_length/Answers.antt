@@ -1,7 +1,5 @@
 -- The place goes down from the end of the name.
-use Prim.Native.Nat.{◌≤◌}
 use native.Mathlib.Omega.{arith}
-use lib.ListN.{length}
 use Rattle.saving.proofs.Counting.{counts}
 use Rattle.saving.proofs.folder_length.Goals as goal
 

@@ -1,7 +1,5 @@
 use Prim.Native.Nat.{◌≤◌}
-use native.Mathlib.Omega.{arith}
 use lib.ListN.{length}
-use Rattle.saving.proofs.Counting.{counts}
 use Rattle.saving.proofs.folder_length.Given as goal
 
 abbrev pub invariant-loop-i : goal.invariant-loop-i

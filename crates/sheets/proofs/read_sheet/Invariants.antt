@@ -1,11 +1,6 @@
-use Prim.Native.Nat.{◌-◌, ◌<◌, ◌≤◌}
+use Prim.Native.Nat.{◌-◌, ◌≤◌}
 use mathlib.Core.Path.{◌≡◌}
-use native.Mathlib.Omega.{arith}
 use lib.ListN.{length}
-use mir.Syntax.{w64}
-use mir.Val.{of_z, to_z}
-use borrow.Rule.Slice.PartMut.{put_mid, same_len_mid}
-use Rattle.sheets.proofs.Sheets.{ended_within}
 use Rattle.sheets.proofs.read_sheet.Given as goal
 
 abbrev pub invariant-loop-n : goal.invariant-loop-n

@@ -1,6 +1,6 @@
 -- Nothing past the end, a byte below 128 is a character, the rest is `long_char`'s.
 use mathlib.Core.Path.{sym}
-use Rattle.yaml_text.proofs.Utf8Laws.{first_past}
+use Rattle.yaml_text.specs.Utf8Laws.{first_past}
 use Rattle.utf8.proofs.Laws.{plain_at}
 use Rattle.utf8.proofs.char_at.Goals as goal
 

@@ -1,6 +1,4 @@
 -- Each way out is one case of `by_len`, at the bytes that were read.
-use Prim.Native.Nat.{ℕ}
-use mathlib.Core.List.{List}
 use Rattle.utf8.proofs.Laws.{case0, case1, case2, case3, case4}
 use Rattle.utf8.proofs.long_char.Goals as goal
 

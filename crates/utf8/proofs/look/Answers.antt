@@ -1,9 +1,7 @@
 -- What stands first is the first character, or there is none.
-use Prim.Native.Nat.{ℕ}
-use mathlib.Core.List.{List}
 use mathlib.Core.Path.{◌∙◌, sym}
 use lib.ListN.{drop}
-use Rattle.yaml_text.proofs.Utf8Laws.{first_past}
+use Rattle.yaml_text.specs.Utf8Laws.{first_past}
 use Rattle.utf8.proofs.Laws.{look_char, look_end, look_none, plain_at}
 use Rattle.utf8.proofs.look.Goals as goal
 

@@ -1,10 +1,8 @@
 -- The invariant: those of the class that were passed and those that are left are all of them.
-use Prim.Native.Nat.{◌+◌, ◌-◌, ◌≤◌}
-use mathlib.Core.Path.{◌≡◌}
+use Prim.Native.Nat.{◌≤◌}
 use native.Mathlib.Omega.{arith}
-use lib.ListN.{drop, length}
 use Rattle.chars.specs.Blocks.{in_class}
-use Rattle.chars.specs.Each.{count_more, count_none, count_of, one_most}
+use Rattle.chars.specs.Each.{count_more, count_none, one_most}
 use borrow.Author.Rules.{rules}
 use Rattle.chars.proofs.block.count.Goals as goal
 

@@ -1,10 +1,8 @@
 use Prim.Native.Nat.{◌+◌, ◌-◌, ◌≤◌}
 use mathlib.Core.Path.{◌≡◌}
-use native.Mathlib.Omega.{arith}
 use lib.ListN.{drop, length}
 use Rattle.chars.specs.Blocks.{in_class}
-use Rattle.chars.specs.Each.{count_more, count_none, count_of, one_most}
-use borrow.Author.Rules.{rules}
+use Rattle.chars.specs.Each.{count_of}
 use Rattle.chars.proofs.block.count.Given as goal
 
 abbrev pub invariant-loop-i : goal.invariant-loop-i

@@ -1,6 +1,4 @@
 -- One law of breaks for each return.
-use Prim.Native.Nat.{ℕ}
-use mathlib.Core.List.{List}
 use mathlib.Core.Path.{sym}
 use native.Mathlib.Omega.{arith}
 use Rattle.chars.specs.Bytes.{byte_within}

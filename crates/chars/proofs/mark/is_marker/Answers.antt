@@ -1,6 +1,4 @@
 -- An ASCII character is told by its byte.
-use Prim.Native.Nat.{ℕ}
-use mathlib.Core.List.{List}
 use mathlib.Core.Path.{◌∙◌, sym}
 use Rattle.chars.specs.Ascii.{ascii_low}
 use Rattle.chars.specs.Bytes.{ascii_char}

@@ -6,7 +6,7 @@ use Rattle.yaml_text.specs.Char.{carriage_return, line_feed}
 use Rattle.yaml_text.specs.Class.{is_break, peek}
 use Rattle.yaml_text.specs.Mark.{Place, along, break_length, half_break, here, look, new_line, over, skip_break, skip_by, run_of}
 use Rattle.yaml_text.specs.Test.{both_true, by_pick, by_test, true_false}
-use Rattle.yaml_text.proofs.DecodeLaws.{NoNul, no_nul_drop}
+use Rattle.yaml_text.specs.DecodeLaws.{NoNul, no_nul_drop}
 
 -- how many characters are left
 abbrev pub left : Place → ℕ

@@ -12,7 +12,7 @@ use Rattle.yaml_text.specs.Mark.{along, along_by, here, over}
 use Rattle.yaml_text.specs.Refusal.{Read, ◌>>=◌, got, need, refused}
 use Rattle.yaml_text.specs.Decode.{decode}
 use Rattle.yaml_text.specs.Test.{both_true}
-use Rattle.yaml_text.proofs.ByteLaws.{first_ascii}
+use Rattle.yaml_text.specs.ByteLaws.{first_ascii}
 use Rattle.yaml_lexeme.specs.declared.Style.TheVariants.{Plain}
 use Rattle.yaml_lexeme.specs.Token.{BlockEnd, BlockMappingStart, FlowEntry, FlowSequenceEnd, FlowSequenceStart, Key, Kind, Scalar, StreamEnd, Token, Value, empty_token}
 use Rattle.yaml_scan.specs.declared.Candidate.{Candidate}
@@ -28,9 +28,9 @@ use Rattle.yaml_scan.specs.Document.{forced}
 use Rattle.yaml_scan.specs.Fetch.{fetch}
 use Rattle.yaml_scan.specs.Scan.{begin, standard, step, to_next_token, unrolled}
 use Rattle.yaml_scan.specs.Open.{all_open}
-use Rattle.yaml_scan.proofs.Steps.{unrolled_state}
-use Rattle.yaml_stream.proofs.InList.{next_choice}
-use Rattle.yaml_stream.proofs.OnKeyLine.{KeyLine}
+use Rattle.yaml_scan.specs.Steps.{unrolled_state}
+use Rattle.yaml_stream.specs.InList.{next_choice}
+use Rattle.yaml_stream.specs.OnKeyLine.{KeyLine}
 
 -- a text each byte of which is a character
 

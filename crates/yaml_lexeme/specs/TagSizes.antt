@@ -9,15 +9,15 @@ use Rattle.yaml_text.specs.Class.{is_alpha, is_anchor, is_blank, is_non_space, i
 use Rattle.yaml_text.specs.Mark.{Place, Run, along, here, look, nothing_at, skip_by, run_of}
 use Rattle.yaml_text.specs.Test.{by_pick, by_test, on_pick}
 use Rattle.yaml_text.specs.All.{All, all_any, all_bind, all_both, all_need, all_test, all_weak, holds}
-use Rattle.yaml_text.proofs.PlaceLaws.{left, skip_break_fit, there}
+use Rattle.yaml_text.specs.PlaceLaws.{left, skip_break_fit, there}
 use Rattle.yaml_lexeme.specs.Token.{Kind, Lexeme, kind_bytes, size, token_bytes}
 use Rattle.yaml_lexeme.specs.Role.{neither, role}
 use Rattle.yaml_lexeme.specs.Tag.{Texts, handled, primary, scan_tag, tag_texts, uri_run, verbatim}
 use Rattle.yaml_lexeme.specs.Anchor.{scan_anchor}
 use Rattle.yaml_lexeme.specs.Directive.{blanks_at, directive_of, parameters, reserved_directive, scan_directive, tag_directive, tag_handle, tag_name, tag_prefix, version_directive, version_number, yaml_name}
 use Rattle.yaml_lexeme.specs.Fits.{blanks_and_comment_fit, blanks_fit}
-use Rattle.yaml_lexeme.proofs.EscapeFits.{percent_fit}
-use Rattle.yaml_lexeme.proofs.EscapeSizes.{percent_pays}
+use Rattle.yaml_lexeme.specs.EscapeFits.{percent_fit}
+use Rattle.yaml_lexeme.specs.EscapeSizes.{percent_pays}
 use Rattle.yaml_lexeme.specs.TagFits.{version_directive_fit}
 use Rattle.yaml_lexeme.specs.Sizes.{Lexed, Pays, PaysRun, all_before, drop_less, size_append, size_cons, size_drop, size_fits, size_first, size_nil, size_one, width, width_some, run_of_pays}
 

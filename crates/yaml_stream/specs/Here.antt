@@ -31,10 +31,11 @@ use Rattle.yaml_scan.specs.Document.{all_ends, fetch_byte_order_mark, fetch_dire
 use Rattle.yaml_scan.specs.Choice.{choice}
 use Rattle.yaml_scan.specs.Fetch.{fetch, fetch_anchor, fetch_block_scalar, fetch_flow_scalar, fetch_plain_scalar, fetch_tag}
 use Rattle.yaml_scan.specs.Scan.{step, to_next_token, unrolled}
-use Rattle.yaml_scan.proofs.ChoiceLaws.{ChoiceSays, choice_says}
+use Rattle.yaml_scan.specs.ChoiceLaws.{ChoiceSays, choice_says}
 use Rattle.yaml_scan.specs.Moves.{Enters, Move, Moves, begins, closes, leaves, opens, parts, tells, uses}
-use Rattle.yaml_scan.proofs.Steps.{Gapped, Takes, gapped, inside, lapses, stays, step_by, unrolled_state}
-use Rattle.yaml_stream.proofs.Alone.{Absents}
+use Rattle.yaml_scan.specs.Steps.{Gapped, Takes, gapped, inside, lapses, stays, unrolled_state}
+use Rattle.yaml_scan.proofs.Steps.{step_by}
+use Rattle.yaml_stream.specs.Alone.{Absents}
 
 -- a reader's token ends where the reading goes on
 

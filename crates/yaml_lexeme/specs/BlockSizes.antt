@@ -9,7 +9,7 @@ use Rattle.yaml_text.specs.Class.{is_blank, is_break, none_left, peek}
 use Rattle.yaml_text.specs.Mark.{Place, Run, ends_line, half_break, here, look, over, skip_break, skip_by}
 use Rattle.yaml_text.specs.Test.{by_pick, by_test}
 use Rattle.yaml_text.specs.All.{All, all_bind, all_need, all_weak, holds, not_read}
-use Rattle.yaml_text.proofs.PlaceLaws.{left, skip_break_fit}
+use Rattle.yaml_text.specs.PlaceLaws.{left, skip_break_fit}
 use Rattle.yaml_lexeme.specs.declared.Chomping.{Chomping}
 use Rattle.yaml_lexeme.specs.declared.Chomping.TheVariants.{Clip, Keep, Strip}
 use Rattle.yaml_lexeme.specs.declared.Style.{Style}
@@ -17,7 +17,7 @@ use Rattle.yaml_lexeme.specs.Token.{Lexeme, kind_bytes, size}
 use Rattle.yaml_lexeme.specs.Role.{role}
 use Rattle.yaml_lexeme.specs.Block.{BetweenLines, ContentTurn, Layout, Line, Margin, after_content, ahead, behind, between, block_content, chomped, content, content_column, content_end, content_stops, content_turn, inside, lines_after, lines_on, margin, no_content, opening_turn, opens_content, own_break, scan_block_scalar, separator, writes}
 use Rattle.yaml_lexeme.specs.Fits.{blanks_and_comment_fit}
-use Rattle.yaml_lexeme.proofs.BlockFits.{indicators_fit}
+use Rattle.yaml_lexeme.specs.BlockFits.{indicators_fit}
 use Rattle.yaml_lexeme.specs.Sizes.{Lexed, Pays, PaysRun, fold_size, size_append, size_cons, size_feeds, size_fits, size_first, size_nil, size_one, width, width_some}
 
 -- the line feeds that were paid for the lines behind which a character stands

@@ -1,9 +1,8 @@
--- What the reader makes of a list of tokens and of the answer behind it. It ends with done exactly where the list begins with a job's shape.
-use Rattle.std.specs.Prelude.{◌+◌, ℕ, Bool, ◌&&◌, List, [], ◌++◌, ◌∷◌, ◌≡◌, refl, eqb}
+-- Theorems about specs/Reads, and what rests on them.
+use Rattle.std.specs.Prelude.{◌+◌, ℕ, ◌&&◌, List, [], ◌++◌, ◌∷◌, ◌≡◌, refl, eqb}
 use Rattle.std.proofs.Math.Bool.{false, not, true}
 use Rattle.std.proofs.Common.{append-nil, ap, subst, arith, eqb-true}
 use Rattle.std.proofs.lemmas.Bool.{not-false}
-use Rattle.yaml_text.specs.declared.Mark.{Mark}
 use Rattle.yaml_text.specs.Utf8.{encode}
 use Rattle.yaml_text.specs.Class.{same}
 use Rattle.yaml_text.specs.Test.{both_true, on_pick}
@@ -13,7 +12,7 @@ use Rattle.yaml_lexeme.specs.Record.{laid, number_of, style_number}
 use Rattle.yaml_lexeme.specs.RecordLaws.{same_true}
 use Rattle.yaml_stream.specs.Stream.{Next, ended, refusal, spent, token}
 use Rattle.yaml_job.specs.declared.Effect.{Effect}
-use Rattle.yaml_job.specs.declared.Effect.TheVariants.{Finishes, Hands, Passes, Refuses}
+use Rattle.yaml_job.specs.declared.Effect.TheVariants.{Refuses}
 use Rattle.yaml_job.specs.declared.Field.{Field}
 use Rattle.yaml_job.specs.declared.Field.TheVariants.{Panel, Sample, Seeds}
 use Rattle.yaml_job.specs.declared.Form.{Form}
@@ -23,46 +22,8 @@ use Rattle.yaml_job.specs.declared.ShapePlace.{ShapePlace}
 use Rattle.yaml_job.specs.declared.ShapePlace.TheVariants.{AtEnd, AtEntry, AtField, AtList, AtMapping, AtName, AtStart, AtText, AtValue, BehindField, BehindSeed}
 use Rattle.yaml_job.specs.Job.{adds, all_met, behind_value, effect, end_of, has, holds, is, is_number, is_scalar, meets, named, no_place, none_met, placed, seed_of, sight, spelled, style_of, value_from, wants}
 use Rattle.yaml_job.specs.Shape.{Decimal, Entries, Fields, Is, IsScalar, IsSeed, Names, Shape, ValueOf, comma_field, field, last_field, last_seed, next_field, next_seed, no_field, no_seed, panel_text, sample_text, seed_list, shape, start_of, times}
-use Rattle.yaml_job.proofs.Seen.{Bare, is_a_scalar, is_kind, is_seed, number_is, plain_style}
-
-pub data End : Type 0 where
-  ends_done : End
-  stops : ℕ → Mark → End
-  -- more tokens are wanted
-  unread : End
-
-pub record Judgement : Type 0 where
-  pub values : List ℕ
-  pub end : End
-
-abbrev pub judgement : List ℕ → End → Judgement
-judgement vs e = record { values = vs; end = e }
-
-abbrev pub end_by : Next → End
-end_by (token t) = unread
-end_by (refusal k m) = stops k m
-end_by ended = unread
-end_by spent = unread
-
-abbrev pub after_effect : Effect → Mark → (ShapePlace → Met → Judgement) → Judgement
-after_effect (Passes p m) k go = go p m
-after_effect (Hands v p m) k go = let r = go p m in judgement (v ∷ r.values) r.end
-after_effect (Refuses n) k go = judgement [] (stops n k)
-after_effect Finishes k go = judgement [] ends_done
-
-unfoldable pub judged : ShapePlace → Met → List Token → Next → Judgement
-judged p m [] a = judgement [] (end_by a)
-judged p m (t ∷ ts) a = after_effect (effect p m (sight t)) t.start (λ q l. judged q l ts a)
-
--- fields met, and fields to come
-
-abbrev bit : Bool → ℕ
-bit true = 1
-bit false = 0
-
--- the fields not met are those of fs, each once
-abbrev pub Left : Met → List Field → Type 0
-Left m fs = (f : Field) → bit (has m f) + times f fs ≡ 1
+use Rattle.yaml_job.specs.Seen.{Bare, is_a_scalar, is_kind, is_seed, number_is, plain_style}
+use Rattle.yaml_job.specs.Reads.{Judgement, end_by, after_effect, judged, bit, Left, none_yet, ends_done}
 
 left_adds : (f : Field) (m : Met) (fs : List Field) → has m f ≡ false → Left (adds f m) fs → Left m (f ∷ fs)
 unfolding times
@@ -76,42 +37,6 @@ left_adds Seeds m fs e l Sample = omega (arith, l Sample)
 left_adds Seeds m fs e l Panel = omega (arith, l Panel)
 left_adds Seeds m fs e l Seeds = rw e (omega (arith, l Seeds))
 
-not_met : (b : Bool) (n : ℕ) → bit b + (1 + n) ≡ 1 → (b ≡ false) × (n ≡ 0)
-not_met true n e = absurd (omega arith)
-not_met false n e = (refl, omega arith)
-
-pub adds_left : (f : Field) (m : Met) (fs : List Field) → Left m (f ∷ fs) → (has m f ≡ false) × Left (adds f m) fs
-unfolding times
-adds_left Sample m fs l = let n = not_met (has m Sample) (times Sample fs) (l Sample) in (n.0, by_field)
-  where
-    by_field : Left (adds Sample m) fs
-    by_field Sample = omega (arith, (not_met (has m Sample) (times Sample fs) (l Sample)).1)
-    by_field Panel = omega (arith, l Panel)
-    by_field Seeds = omega (arith, l Seeds)
-adds_left Panel m fs l = let n = not_met (has m Panel) (times Panel fs) (l Panel) in (n.0, by_field)
-  where
-    by_field : Left (adds Panel m) fs
-    by_field Sample = omega (arith, l Sample)
-    by_field Panel = omega (arith, (not_met (has m Panel) (times Panel fs) (l Panel)).1)
-    by_field Seeds = omega (arith, l Seeds)
-adds_left Seeds m fs l = let n = not_met (has m Seeds) (times Seeds fs) (l Seeds) in (n.0, by_field)
-  where
-    by_field : Left (adds Seeds m) fs
-    by_field Sample = omega (arith, l Sample)
-    by_field Panel = omega (arith, l Panel)
-    by_field Seeds = omega (arith, (not_met (has m Seeds) (times Seeds fs) (l Seeds)).1)
-
-was_met : (b : Bool) → bit b + 0 ≡ 1 → b ≡ true
-was_met true e = refl
-was_met false e = absurd (omega arith)
-
-pub all_left : (m : Met) → Left m [] → all_met m ≡ true
-unfolding times
-all_left m l =
-    let a = was_met (has m Sample) (l Sample) in
-    let b = was_met (has m Panel) (l Panel) in
-    let c = was_met (has m Seeds) (l Seeds) in rw (a, b, c)
-
 left_all : (m : Met) → all_met m ≡ true → Left m []
 unfolding times
 left_all m e f = let a = both_true m.sample (m.panel && m.seeds) e in by_field f a.0 (both_true m.panel m.seeds a.1)
@@ -120,8 +45,6 @@ left_all m e f = let a = both_true m.sample (m.panel && m.seeds) e in by_field f
     by_field Sample a b = rw a
     by_field Panel a b = rw b.0
     by_field Seeds a b = rw b.1
-
--- done: then the tokens are of the shape. What is left of it, at each place
 
 data Tail (g : Form) (m : Met) : List Token → List ℕ → Type 0 where
   tail : {fs : List Field} {ts us : List Token} {vs : List ℕ} {e z : Token} → Fields g fs ts vs (e ∷ z ∷ us) → Is (end_of g) e → Is StreamEnd z → Left m fs → Tail g m ts vs
@@ -177,8 +100,6 @@ Completes (BehindSeed g) m ts vs = Goes SeedRest g m ts vs
 Completes BehindField m ts vs = After m Braces ts vs
 Completes AtEnd m ts vs = EndRest m ts vs
 
--- a token before it
-
 add_seed : {g : Form} {m : Met} {t : Token} {v : ℕ} {ts : List Token} {vs : List ℕ} → IsSeed t v → Goes SeedRest g m ts vs → Goes EntriesRest g m (t ∷ ts) (v ∷ vs)
 add_seed s (goes (more_seeds c (in_list n e)) k) = goes (in_list (next_seed s c n) e) k
 add_seed s (goes (no_more e) k) = goes (in_list (last_seed s) e) k
@@ -220,8 +141,6 @@ seed_seen t s e =
     let n = number_is (token_bytes t) b.1 in
     let q : token_bytes t ≡ encode s.1 = ap kind_bytes k in
     (s.1, rw p at k, subst (λ (ds : List ℕ). Decimal ds (value_from 0 (token_bytes t))) q n.0, n.1)
-
--- what a token does, where the rest is of the shape
 
 module _ (t : Token) (ts : List Token) (go : ShapePlace → Met → Judgement)
     (ih : (q : ShapePlace) (l : Met) → (go q l).end ≡ ends_done → Completes q l ts (go q l).values) where
@@ -299,11 +218,6 @@ sound : (p : ShapePlace) (m : Met) (ts : List Token) (a : Next) → (judged p m 
 unfolding judged
 sound p m [] a e = absurd (not_yet a e)
 sound p m (t ∷ ts) a e = effect_sound t ts (λ q l. judged q l ts a) (λ q l d. sound q l ts a d) p m e
-
-pub none_yet : (f : Field) → bit (has none_met f) ≡ 0
-none_yet Sample = refl
-none_yet Panel = refl
-none_yet Seeds = refl
 
 as_shape : {ts : List Token} {vs : List ℕ} → StartRest none_met ts vs → (us : List Token) × Shape ts vs us
 as_shape (start_at s (mapping_at b (tail {us = us} w e z l))) = (us, shape s b w e z (λ f. omega (arith, l f, none_yet f)))
