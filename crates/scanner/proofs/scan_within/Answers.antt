@@ -1,9 +1,6 @@
 -- A refusal clears both rooms, whatever the run left there; else what was stored is settled and zeros stand behind it.
 use mathlib.Core.Path.{◌∙◌}
-use Rattle.yaml_scan.specs.Scan.{outcome}
-use Rattle.sink.specs.Stored.{no_counts}
 use Rattle.scanner.proofs.Filled.{answered, settles, stopped_answer}
-use Rattle.scanner.specs.Run.{RunScans}
 use Rattle.scanner.proofs.scan_within.Goals as goal
 
 pub lent-requires : goal.lent-requires
