@@ -1,8 +1,6 @@
 use Prim.Native.Nat.{◌-◌}
 use mathlib.Core.Path.{◌≡◌}
-use native.Mathlib.Omega.{arith}
 use lib.ListN.{length}
-use Rattle.vectors.specs.Line.{line_within}
 use Rattle.edges.proofs.rooms.in_small_rooms.Given as goal
 
 abbrev pub invariant-loop-at : goal.invariant-loop-at

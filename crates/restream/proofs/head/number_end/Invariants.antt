@@ -1,6 +1,5 @@
 -- The place stays within the line, or where it began.
 use Prim.Native.Nat.{◌+◌, ◌-◌, ◌≤◌}
-use mathlib.Core.Path.{◌≡◌}
 use lib.ListN.{length}
 use Rattle.restream.proofs.head.number_end.Given as goal
 

@@ -1,6 +1,5 @@
 -- Each turn goes one on in the line.
-use Prim.Native.Nat.{◌+◌, ◌-◌, ◌≤◌}
-use mathlib.Core.Path.{◌≡◌}
+use Prim.Native.Nat.{◌-◌, ◌≤◌}
 use lib.ListN.{length}
 use Rattle.restream.proofs.head.read_number.Given as goal
 

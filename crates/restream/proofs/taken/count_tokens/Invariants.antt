@@ -1,5 +1,5 @@
 -- Each turn counts one more, up to the most there can be; the rooms keep their lengths.
-use Prim.Native.Nat.{◌+◌, ◌-◌, ◌≤◌}
+use Prim.Native.Nat.{◌-◌}
 use mathlib.Core.Path.{◌≡◌}
 use lib.ListN.{length}
 use Rattle.restream.proofs.taken.count_tokens.Given as goal

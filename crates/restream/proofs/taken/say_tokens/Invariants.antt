@@ -1,5 +1,5 @@
 -- Each turn writes one record more; the rooms keep their lengths.
-use Prim.Native.Nat.{◌+◌, ◌-◌, ◌≤◌}
+use Prim.Native.Nat.{◌-◌}
 use mathlib.Core.Path.{◌≡◌}
 use lib.ListN.{length}
 use Rattle.restream.proofs.taken.say_tokens.Given as goal
