@@ -1,5 +1,5 @@
 -- The loop: the steps that were stored, and what those from here come to, are what all steps come to.
-use Prim.Native.Nat.{◌+◌, ◌-◌, ◌<◌, ◌≤◌, suc, ℕ}
+use Prim.Native.Nat.{◌-◌, ◌<◌, ◌≤◌, suc, ℕ}
 use mathlib.Core.List.{List, [], ◌++◌, append-nil, map}
 use mathlib.Core.Path.{◌∙◌, ◌≡◌, ap, refl}
 use native.Mathlib.Omega.{arith}

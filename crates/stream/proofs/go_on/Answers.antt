@@ -25,7 +25,7 @@ returns-then-gives c =
     let s = c.args in
     let o = c.scan_on in
     let g = c.gives in
-    scan_gives s.limits s.text.now s.held.now s.words.now s.bytes.now o.new.1.0 o.new.1.1.1.0 o.new.1.1.1.1.0 c.requires.4 c.requires.0 c.requires.1 c.if-held-ne1.false c.requires.3 o.ensures g.ensures (o.auto.1.0 ∙ c.requires.4) c.if-gives.true
+    scan_gives s.limits s.text.now s.held.now s.words.now s.bytes.now o.new.held o.new.words o.new.bytes c.requires.4 c.requires.0 c.requires.1 c.if-held-ne1.false c.requires.3 o.ensures g.ensures (o.auto.held ∙ c.requires.4) c.if-gives.true
 
 pub returns : goal.returns
 returns c =
@@ -33,4 +33,4 @@ returns c =
     let o = c.scan_on in
     let g = c.gives in
     let a = c.last_answer-2 in
-    scan_last s.limits s.text.now s.held.now s.words.now s.bytes.now o.new.1.0 o.new.1.1.1.0 o.new.1.1.1.1.0 c.requires.4 c.requires.0 c.requires.1 c.if-held-ne1.false c.requires.3 o.ensures g.ensures c.if-gives.false a.ensures.0 a.ensures.1
+    scan_last s.limits s.text.now s.held.now s.words.now s.bytes.now o.new.held o.new.words o.new.bytes c.requires.4 c.requires.0 c.requires.1 c.if-held-ne1.false c.requires.3 o.ensures g.ensures c.if-gives.false a.ensures.0 a.ensures.1

@@ -7,7 +7,7 @@ pub returns-then-held-eq0 : goal.returns-then-held-eq0
 returns-then-held-eq0 c =
     let s = c.args in
     let o = c.start in
-    λ gone x k. begun_calls s.limits s.text.now s.held.now s.words.now s.bytes.now o.new.1.0 o.new.1.1.1.1.0 o.result c.requires.3 c.requires.0 c.if-held-eq0.true o.ensures k
+    λ gone x k. begun_calls s.limits s.text.now s.held.now s.words.now s.bytes.now o.new.held o.new.token o.result c.requires.3 c.requires.0 c.if-held-eq0.true o.ensures k
 
 pub go_on-requires : goal.go_on-requires
 go_on-requires c = (c.requires.0, c.requires.1, omega (arith, c.if-held-eq0.false), c.requires.2, c.requires.3, c.requires.4)

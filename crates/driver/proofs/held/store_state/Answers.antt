@@ -1,15 +1,9 @@
 -- Nine words are stored one after the other: those of the state.
-use mathlib.Core.Path.{◌∙◌, ap}
 use native.Mathlib.Omega.{arith}
-use lib.ListN.{length, length-set}
-use lib.Seq.{length-sets}
+use lib.ListN.{length-set}
 use Rattle.stacks.specs.Bit.{bit_low}
-use Rattle.driver.specs.Held.{state_at, state_words}
 use Rattle.driver.proofs.Words.{state_put, whole_word}
 use Rattle.driver.proofs.held.store_state.Goals as goal
-
-pub returns : goal.returns
-returns c = state_put c.args.held.now c.args.s (whole_word c.as_word.ensures c.requires.1) (whole_word c.as_word-2.ensures c.requires.2) (whole_word c.as_word-3.ensures c.requires.3)
 
 pub overflow_mul-held : goal.overflow_mul-held
 overflow_mul-held c = omega (arith, bit_low c.args.s.simple_key_allowed)
@@ -32,5 +26,7 @@ bounds-held-6 c = simp length-set (omega arith)
 pub bounds-held-7 : goal.bounds-held-7
 bounds-held-7 c = simp length-set (omega arith)
 
-pub shape_of-held : goal.shape_of-held
-shape_of-held c = ap length (stored c) ∙ length-sets c.args.held.now state_at (state_words c.args.s)
+pub returns : goal.returns
+returns c =
+    state_put c.args.held.now c.args.s (whole_word c.as_word.ensures c.requires.1) (whole_word c.as_word-2.ensures c.requires.2)
+    (whole_word c.as_word-3.ensures c.requires.3)

@@ -13,7 +13,7 @@ pub returns : goal.returns
 returns c =
     let a = c.args in
     let k = c.all_steps in
-    let l = k.new.1.1.1 in
+    let l = k.new in
     let p = c.put_record in
-    start_runs a.limits a.text.now c.requires.0 c.requires.1 a.words.now a.bytes.now l.0 l.1.0 l.1.1.0 k.result
-    c.begin-s.ensures c.store_state.ensures c.store_counts.ensures (rw c.begin-s.ensures at p.ensures) p.auto.0 k.ensures
+    start_runs a.limits a.text.now c.requires.0 c.requires.1 a.words.now a.bytes.now l.held l.words l.bytes k.result
+    c.begin-s.ensures c.store_state.ensures c.store_counts.ensures (rw c.begin-s.ensures at p.ensures) p.auto.words k.ensures
