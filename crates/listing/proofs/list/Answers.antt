@@ -17,4 +17,4 @@ unfolding at_most
 returns c =
     let r = c.scan_with-a in
     let p = c.put_answer.ensures in
-    (answered_lines r.result c.args.text.now _ _ r.ensures p.0, omega (arith, p.1, r.auto.1.1.0))
+    record { written = answered_lines r.result c.args.text.now _ _ r.ensures p.written; upper_bound = omega (arith, p.upper_bound, r.auto.words) }

@@ -12,9 +12,9 @@ returns-in-Accepted c =
     let h = accepted_fit _ _ _ _ e c.requires in
     let p = c.put_numbers-next.ensures in
     let q = c.put_records.ensures in
-    (accepted_lines _ c.args.words.now e p.0 q.0, omega (arith, p.1, q.1))
+    record { written = accepted_lines _ c.args.words.now e p.written q.written; upper_bound = omega (arith, h, p.upper_bound, q.upper_bound) }
 
 pub returns-in-Refused : goal.returns-in-Refused
 returns-in-Refused c =
     let p = c.put_numbers.ensures in
-    (refused_lines _ c.args.words.now c.in-Refused.is p.0, omega (arith, p.1))
+    record { written = refused_lines _ c.args.words.now c.in-Refused.is p.written; upper_bound = omega (arith, p.upper_bound) }
