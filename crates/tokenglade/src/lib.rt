@@ -28,12 +28,7 @@ pub fn numbers_of(a: Answer) -> [u32; 6]
 }
 
 // Tokens and decoded text of a text, in lent words and bytes; and the numbers of the answer.
-pub fn tokenglade_scan(
-    text: &[u8],
-    words: &mut [u32],
-    bytes: &mut [u8],
-    answer: &mut [u32; 6],
-)
+pub fn tokenglade_scan(text: &[u8], words: &mut [u32], bytes: &mut [u8], answer: &mut [u32; 6])
     ensures { GivesNumbers text.now words.old bytes.old words.new bytes.new answer.new }
 {
     *answer = numbers_of(scan(text, words, bytes));
