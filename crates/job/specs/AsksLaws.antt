@@ -1,6 +1,6 @@
 -- What the code answers is what the definition's call comes to: by cases of the stream's answer, and of the effect of its token; and a token that only leads on
 -- leaves the rest of the call.
-use Rattle.std.specs.Prelude.{◌+◌, ◌-◌, ◌<◌, suc, zero, ℕ, ◌≡◌, refl, length}
+use Rattle.std.specs.Prelude.{◌-◌, ◌<◌, suc, zero, ℕ, ◌≡◌, refl, length}
 use mathlib.Core.List.{List, [], ◌++◌, ◌∷◌}
 use Rattle.std.proofs.Common.{◌∙◌, subst, sym, arith, length-append}
 use Rattle.std.proofs.Math.Path.{ap}

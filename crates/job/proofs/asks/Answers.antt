@@ -2,7 +2,6 @@
 use native.Mathlib.Omega.{arith}
 use Rattle.yaml_scan.specs.Scan.{standard}
 use Rattle.yaml_job.specs.Job.{most_asked}
-use Rattle.job.specs.Asks.{AsksOn}
 use Rattle.job.specs.AsksLaws.{asks_begin, turn_goes, turn_none, turn_replies}
 use Rattle.job.proofs.asks.Goals as goal
 
@@ -21,7 +20,7 @@ returns-in-Replies c =
     let o = c.ask-a in
     turn_replies standard s.text.now s.held.now s.words.now s.bytes.now s.place s.met s.count most_asked
     l.held l.words l.bytes l.p l.m l.left l.invariant
-    o.new.0 o.new.1.1.0 o.new.1.1.1.0 o.result c.loop-left-test.true o.ensures
+    o.new.held o.new.words o.new.bytes o.result c.loop-left-test.true o.ensures
     c.in-Replies.r c.in-Replies.is
 
 pub loop-left-preserved : goal.loop-left-preserved
@@ -31,9 +30,9 @@ loop-left-preserved c =
     let o = c.ask-a in
     turn_goes standard s.text.now s.held.now s.words.now s.bytes.now s.place s.met s.count most_asked
     l.held l.words l.bytes l.p l.m l.left l.invariant
-    o.new.0 o.new.1.1.0 o.new.1.1.1.0 o.result c.loop-left-test.true o.ensures
+    o.new.held o.new.words o.new.bytes o.result c.loop-left-test.true o.ensures
     c.in-Goes.place c.in-Goes.met
-    o.auto.0 o.auto.1.1.0 o.auto.1.1.1.0 c.in-Goes.is
+    o.auto.held o.auto.words o.auto.bytes c.in-Goes.is
 
 pub returns : goal.returns
 returns c =

@@ -1,8 +1,6 @@
-use native.Mathlib.Omega.{arith}
 use Rattle.yaml_scan.specs.Scan.{standard}
 use Rattle.yaml_job.specs.Job.{most_asked}
 use Rattle.job.specs.Asks.{AsksOn}
-use Rattle.job.specs.AsksLaws.{asks_begin, turn_goes, turn_none, turn_replies}
 use Rattle.job.proofs.asks.Given as goal
 
 abbrev pub invariant-loop-left : goal.invariant-loop-left

@@ -7,4 +7,4 @@ returns c =
     let s = c.args in
     let f = c.least-from in
     let n = c.least in
-    effect_taken s.place s.met s.t1 s.bytes.now f.result n.result f.ensures.0 n.ensures.0 c.effect.ensures
+    effect_taken s.place s.met s.token s.bytes.now f.result n.result f.ensures.0 n.ensures.0 c.effect.ensures

@@ -8,5 +8,5 @@ returns c =
     let s = c.args in
     let o = c.asks-r in
     read_told standard s.text.now s.state.now s.words.now s.bytes.now c.store.new.words
-    o.new.0 o.new.1.1.0 o.new.1.1.1.0 c.reader_words.result
-    s.place s.met s.count o.result c.requires.0 c.requires.1 o.auto.0 c.reader_words.ensures c.store.ensures o.ensures
+    o.new.held o.new.words o.new.bytes c.reader_words.result
+    s.place s.met s.count o.result c.requires.0 c.requires.1 o.auto.held c.reader_words.ensures c.store.ensures o.ensures

@@ -5,6 +5,7 @@ use lib.ListN.{get_or-eq_default}
 use Rattle.yaml_job.specs.declared.Field.{Field}
 use Rattle.yaml_job.specs.declared.Form.{Form}
 use Rattle.yaml_job.specs.declared.ShapePlace.TheVariants.{AtEnd}
+use borrow.Author.Rules.{rules}
 use Rattle.job.specs.Own.{place_of, places}
 use Rattle.job.specs.OwnLaws.{missed}
 use Rattle.job.proofs.own.place_of.Goals as goal
@@ -34,4 +35,4 @@ pub returns-in-8 : goal.returns-in-8
 returns-in-8 c = let a = c.args in by_number a.form a.field c.in-8.is
 
 pub returns-in_default : goal.returns-in_default
-returns-in_default c = let a = c.args in sym (get_or-eq_default (places a.form a.field) AtEnd (missed 10 a.n c.in_default.in_default-own.rest))
+returns-in_default c = let a = c.args in sym (get_or-eq_default (places a.form a.field) AtEnd (missed 10 a.n (search rules)))

@@ -1,5 +1,6 @@
 -- The place's word is that of Done, of NotDone, or another.
 use mathlib.Core.Path.{◌∙◌, sym}
+use borrow.Author.Rules.{rules}
 use Rattle.job.specs.OwnLaws.{done_in, not_closed_in, not_done_in}
 use Rattle.job.proofs.own.reader_in.Goals as goal
 
@@ -10,4 +11,4 @@ pub returns-in-12 : goal.returns-in-12
 returns-in-12 c = rw c.refused_in.ensures (sym (not_done_in c.args.state.now c.in-12.is))
 
 pub returns-in_default : goal.returns-in_default
-returns-in_default c = c.reading_in.ensures ∙ sym (not_closed_in c.args.state.now c.in_default.in_default-own.rest)
+returns-in_default c = c.reading_in.ensures ∙ sym (not_closed_in c.args.state.now (search rules))
