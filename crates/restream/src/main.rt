@@ -82,12 +82,7 @@ fn restream_line(
 }
 
 // The rooms hold what the text before left there.
-fn restream_all(
-    rt: &HostRuntime,
-    s: &[u8],
-    words: &mut [u32],
-    bytes: &mut [u8],
-) -> io::Result<()>
+fn restream_all(rt: &HostRuntime, s: &[u8], words: &mut [u32], bytes: &mut [u8]) -> io::Result<()>
     requires { length bytes.old ≤ 16_128 }
 {
     let mut at = 0;

@@ -134,12 +134,7 @@ fn say_next(
 }
 
 // Writes how many tokens there are. Where there are some, the last record has the bar behind it.
-fn say_count(
-    rt: &HostRuntime,
-    text: &[u8],
-    words: &mut [u32],
-    bytes: &mut [u8],
-) -> io::Result<u32>
+fn say_count(rt: &HostRuntime, text: &[u8], words: &mut [u32], bytes: &mut [u8]) -> io::Result<u32>
     requires { length text.now < 2 ^ 30 }
 {
     let n = count_tokens(text, words, bytes);
