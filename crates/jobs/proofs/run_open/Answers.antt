@@ -5,5 +5,5 @@ use Rattle.jobs.proofs.run_open.Goals as goal
 pub returns-in_default : goal.returns-in_default
 returns-in_default c = nothing unwritten
 
-pub returns-in_default-2 : goal.returns-in_default-2
-returns-in_default-2 c = nothing unread
+pub returns-then-is_place : goal.returns-then-is_place
+returns-then-is_place c = nothing unread
