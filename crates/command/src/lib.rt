@@ -4,8 +4,7 @@
 mod listed;
 
 use crate::listed::list_plan;
-use arguments::word::is;
-use arguments::word::MOST_WORD;
+use arguments::word::{MOST_WORD, is};
 use arguments::{Arguments, Verb, copy_word, read_arguments};
 use jobs::run_plan;
 use std::fs::{File, OpenOptions};

@@ -13,8 +13,7 @@ ghost use Rattle.jobs.specs.Status.{ReadAnswers};
 use crate::old::{remove_old, would_lose, would_mix};
 use crate::output::{begin_output, drop_output};
 use crate::run::run_text;
-use arguments::word::is;
-use arguments::word::MOST_WORD;
+use arguments::word::{MOST_WORD, is};
 use arguments::{Plan, name_at};
 use outlets::say;
 use saving::{Begun, NAME_ROOM, is_place};
@@ -143,11 +142,17 @@ fn run_named(
     ensures { ReadAnswers text.new (length words.old) (length bytes.old) allowed result }
 {
     if clash(sheet, record, seeds) {
-        say_wrong(rt, b"SHEET and the FILEs of --record and --seeds must be different files");
+        say_wrong(
+            rt,
+            b"SHEET and the FILEs of --record and --seeds must be different files",
+        );
         return UNREAD;
     }
     if would_lose(rt, sheet, record, seeds) {
-        say_wrong(rt, b"the sheet itself can't be the FILE of --record or --seeds");
+        say_wrong(
+            rt,
+            b"the sheet itself can't be the FILE of --record or --seeds",
+        );
         return UNREAD;
     }
     if would_mix(rt, record, seeds) {

@@ -1,8 +1,7 @@
 // The FILEs of --record and --seeds, as an earlier job left them.
 use identity::{Identity, is_link, is_same, is_special, of_name};
 use outlets::{fail, path, say};
-use std::fs;
-use std::io;
+use std::{fs, io};
 
 // The file that the sheet is.
 fn sheet_file(rt: &HostRuntime, sheet: &[u8]) -> Identity {

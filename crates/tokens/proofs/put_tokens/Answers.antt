@@ -1,7 +1,6 @@
 -- Each turn is one call more of the stream, so behind "ended" 01 accepts the text. The calls left are fewer; the buffer and the rooms keep their lengths.
 use mathlib.Core.Path.{◌∙◌, sym}
-use lib.ListN.{length}
-use Rattle.tokens.proofs.Going.{Going, going_ended, going_on, going_start, not_ended}
+use Rattle.tokens.proofs.Going.{going_ended, going_on, going_start, not_ended}
 use borrow.Author.Rules.{rules}
 use Rattle.tokens.proofs.put_tokens.Goals as goal
 

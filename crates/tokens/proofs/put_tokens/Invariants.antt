@@ -1,7 +1,5 @@
-use mathlib.Core.Path.{◌∙◌, sym}
 use lib.ListN.{length}
-use Rattle.tokens.proofs.Going.{Going, going_ended, going_on, going_start, not_ended}
-use borrow.Author.Rules.{rules}
+use Rattle.tokens.proofs.Going.{Going}
 use Rattle.tokens.proofs.put_tokens.Given as goal
 
 abbrev pub invariant-loop-left : goal.invariant-loop-left

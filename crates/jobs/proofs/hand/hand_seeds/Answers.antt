@@ -1,10 +1,8 @@
 -- Each call hands a seed over, or closes the job as the definition does. No job is lost, and none hands so many seeds over.
-use Prim.Native.Nat.{◌-◌}
 use mathlib.Core.Path.{sym}
 use native.Mathlib.Omega.{arith}
 use lib.Seq.{length-take-le}
-use Rattle.jobs.specs.Closes.{most_calls}
-use Rattle.jobs.proofs.On.{On, closed_tells, on_begin, on_closed, on_few, on_lost, on_more}
+use Rattle.jobs.proofs.On.{closed_tells, on_begin, on_closed, on_few, on_lost, on_more}
 use borrow.Author.Rules.{rules}
 use Rattle.jobs.proofs.hand.hand_seeds.Goals as goal
 
