@@ -4,7 +4,7 @@ use mathlib.Core.Path.{◌≡◌}
 use native.Mathlib.Omega.{arith}
 use lib.ListN.{length}
 use Rattle.vectors.specs.Line.{line_within}
-use Rattle.edges.proofs.rooms.in_small_rooms.Goals as goal
+use Rattle.edges.proofs.small_rooms.in_small_rooms.Goals as goal
 
 pub slice_bounds-line_in_small_room-end : goal.slice_bounds-line_in_small_room-end
 slice_bounds-line_in_small_room-end c = let h = line_within c.args.s.now c.loop-at.at (omega arith) in omega arith
