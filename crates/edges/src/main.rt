@@ -2,12 +2,12 @@
 #![tactic(auto)]
 
 mod limits;
-mod rooms;
+mod small_rooms;
 
 ghost use Rattle.std.specs.Prelude.{◌≤◌, length};
 
 use crate::limits::say_limits;
-use crate::rooms::say_rooms;
+use crate::small_rooms::say_rooms;
 use std::io;
 
 fn say_edges(rt: &HostRuntime, space: &mut [u8], bytes: &mut [u8]) -> io::Result<()>

@@ -13,7 +13,11 @@ pub returns-in-Whole : goal.returns-in-Whole
 returns-in-Whole c = record { lists = whole_listed _ _ c.args.room.now _ _ c.in-Whole.is c.list.ensures.written; upper_bound = c.list.ensures.upper_bound }
 
 pub returns-in-Full : goal.returns-in-Full
-returns-in-Full c = record { lists = full_listed _ c.args.room.now _ _ c.in-Full.is c.requires.0 c.list-in-Full.ensures.written; upper_bound = c.list-in-Full.ensures.upper_bound }
+returns-in-Full c =
+    record {
+      lists = full_listed _ c.args.room.now _ _ c.in-Full.is c.requires.0 c.list-in-Full.ensures.written;
+      upper_bound = c.list-in-Full.ensures.upper_bound;
+    }
 
 pub returns-in-Broken : goal.returns-in-Broken
 returns-in-Broken c = record { lists = broken_listed _ c.args.room.now _ c.in-Broken.is; upper_bound = omega arith }

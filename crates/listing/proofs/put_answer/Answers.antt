@@ -12,7 +12,7 @@ returns-in-Accepted c =
     let h = accepted_fit _ _ _ _ e c.requires in
     let p = c.put_numbers-next.ensures in
     let q = c.put_records.ensures in
-    record { written = accepted_lines _ c.args.words.now e p.written q.written; upper_bound = omega (arith, p.upper_bound, q.upper_bound) }
+    record { written = accepted_lines _ c.args.words.now e p.written q.written; upper_bound = omega (arith, h, p.upper_bound, q.upper_bound) }
 
 pub returns-in-Refused : goal.returns-in-Refused
 returns-in-Refused c =
