@@ -18,11 +18,11 @@ fn say_answer(rt: &HostRuntime, what: &[u8], a: Answer) -> io::Result<()> {
     rt.write_all(what)?;
     match a {
         Answer::Accepted(t, d) => {
-            say_numbers(rt, &[t, d], 10)?;
+            say_numbers(&[t, d], 10);
         }
         Answer::Refused(f, _, _) => {
             let m = f.mark;
-            say_numbers(rt, &[f.number, m.index, m.line, m.col], 10)?;
+            say_numbers(&[f.number, m.index, m.line, m.col], 10);
         }
     }
     Ok(())

@@ -200,7 +200,7 @@ fn say_room(rt: &HostRuntime, what: &[u8], s: &[u8], room: Small) -> io::Result<
     let mut bytes = [7u8; 6144];
     let n = in_small_rooms(s, &mut words, &mut bytes, room);
     rt.write_all(what)?;
-    say_numbers(rt, &[n.lent, n.as_expected, n.words, n.bytes], 10)?;
+    say_numbers(&[n.lent, n.as_expected, n.words, n.bytes], 10);
     Ok(())
 }
 

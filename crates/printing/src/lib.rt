@@ -1,7 +1,7 @@
 // Numbers as text, and the lines of records.
 #![tactic(auto)]
 
-ghost use Rattle.std.specs.Prelude.{◌≡◌, ◌*◌, ◌+◌, ◌<◌, ◌^◌, ◌≤◌, IfOk, eqb, drop, length, take};
+ghost use Rattle.std.specs.Prelude.{◌≡◌, ◌*◌, ◌+◌, ◌<◌, ◌^◌, ◌≤◌, eqb, drop, length, take};
 ghost use Rattle.yaml_text.specs.Pick.{pick};
 ghost use Rattle.yaml_lexeme.specs.Record.{record_words};
 ghost use Rattle.printing.specs.Lines.{lines_text, number_text, numbers_line};
@@ -10,6 +10,8 @@ ghost use Rattle.printing.specs.Written.{Written};
 
 use records::RECORD_WORDS;
 use rooms::{copy, put};
+
+const STANDARD_OUTPUT: i32 = 1;
 
 // A number in decimal from `at` on, and a byte behind it; where the next goes.
 fn put_number(out: &mut [u8], at: usize, v: u32, end: u8) -> usize
@@ -47,14 +49,14 @@ pub fn put_numbers(out: &mut [u8], at: usize, numbers: &[u32], between: u8, end:
 }
 
 // Writes numbers on standard output, with blanks between and a byte at the end; how many bytes that are.
-pub fn say_numbers(rt: &HostRuntime, numbers: &[u32], end: u8) -> std::io::Result<usize>
+pub fn say_numbers(numbers: &[u32], end: u8) -> usize
     requires { length numbers.now ≤ record_words }
-    ensures { IfOk result (λ n. n ≡ length (numbers_line 32 end numbers.now)) }
+    ensures { result ≡ length (numbers_line 32 end numbers.now) }
 {
     let mut space = [0u8; 11 * RECORD_WORDS];
     let n = put_numbers(&mut space, 0, numbers, 32, end);
-    rt.write_all(&space[0..n])?;
-    Ok(n)
+    io::write_all(STANDARD_OUTPUT, &space[0..n]);
+    n
 }
 
 // Kind, six mark numbers, style, words 9 and 11 (counted from 1) of the record at a place.

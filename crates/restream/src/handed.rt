@@ -16,7 +16,7 @@ fn say_closing(rt: &HostRuntime, c: Closing) -> io::Result<()> {
     match c {
         Closing::Done { count } => {
             rt.write_all(b"|done ")?;
-            say_numbers(rt, &[count], 10)?;
+            say_numbers(&[count], 10);
         }
         Closing::NotDone {
             number,
@@ -24,7 +24,7 @@ fn say_closing(rt: &HostRuntime, c: Closing) -> io::Result<()> {
             count,
         } => {
             rt.write_all(b"|not ")?;
-            say_numbers(rt, &[number, mark.index, mark.line, mark.col, count], 10)?;
+            say_numbers(&[number, mark.index, mark.line, mark.col, count], 10);
         }
     }
     Ok(())

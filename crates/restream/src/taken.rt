@@ -59,7 +59,7 @@ fn used_behind(used: usize, token: [u32; RECORD_WORDS]) -> usize {
 
 // Writes a record, and a byte behind it.
 fn say_record(rt: &HostRuntime, token: [u32; RECORD_WORDS], end: u8) -> io::Result<()> {
-    say_numbers(rt, &token, end)?;
+    say_numbers(&token, end);
     Ok(())
 }
 
@@ -112,7 +112,7 @@ fn say_answer(rt: &HostRuntime, a: Next, end: u8) -> io::Result<()> {
         Next::Refused(f) => {
             let m = f.mark;
             rt.write_all(b"R ")?;
-            say_numbers(rt, &[f.number, m.index, m.line, m.col], end)?;
+            say_numbers(&[f.number, m.index, m.line, m.col], end);
             Ok(())
         }
         _ => rt.write_all(&[b'E', end]),
@@ -138,7 +138,7 @@ fn say_count(rt: &HostRuntime, text: &[u8], words: &mut [u32], bytes: &mut [u8])
     requires { length text.now < 2 ^ 30 }
 {
     let n = count_tokens(text, words, bytes);
-    say_numbers(rt, &[n], b'|')?;
+    say_numbers(&[n], b'|');
     if n == 0 {
         rt.write_all(b"|")?;
     }

@@ -89,7 +89,7 @@ pub fn read_sheet(rt: &HostRuntime, name: &[u8], from: &mut Source, room: &mut [
         match read_some(from, &mut room[n..]) {
             Ok(k) => {
                 if k == 0 {
-                    return ended(0, n);
+                    return ended(k as isize, n);
                 }
                 n += k;
             }

@@ -5,7 +5,7 @@ use mathlib.Core.List.{List, append-nil}
 use mathlib.Core.Path.{◌∙◌, ◌≡◌, ap, sym}
 use native.Mathlib.Omega.{arith}
 use lib.Dec.{eqb, ltb}
-use lib.ListN.{drop, drop_of_length-le, length, length-drop, length-set, set}
+use lib.ListN.{drop, drop_of_length-le, length, length-drop, set}
 use lib.Seq.{get_or-set_other, length-take-le, sets, sets-eq}
 use borrow.Author.Tests.{le-ltb, lt-ltb, ltb-false, ltb-true, ne_eqb}
 use Rattle.yaml_text.specs.declared.Refusal.{Refusal}
@@ -18,7 +18,7 @@ use Rattle.stacks.specs.Most.{at_most, at_most_fits}
 use Rattle.records.specs.Note.{empty_at, note_in, noted_word}
 use Rattle.sink.specs.Settle.{opener}
 use Rattle.events.specs.declared.Counts.{Counts}
-use Rattle.driver.specs.Held.{base_at, counts_at, held_words, mark_at, number_at, phase_at, slot_at, until_at, word}
+use Rattle.driver.specs.Held.{base_at, counts_at, phase_at, slot_at, until_at, word}
 use Rattle.stream.specs.declared.Next.TheVariants as next
 use Rattle.stream.specs.Words.{Gives, close_held, first_at, first_number, front_base, front_held, front_words, has_some, last_held, no_token, note_left, own, record_from, refusal_held, slot_held, token_words, words_left}
 
@@ -115,13 +115,6 @@ module _ (h l : List ℕ) {slot base : ℕ} (e : slot ≡ slot_held h) (f : base
 
 pub slot_room : (h l : List ℕ) {k : ℕ} → k ≡ slot_held h → least_records * record_words ≤ length l → k * record_words + record_words ≤ length l
 slot_room h l e r = rw e (slot_fits h l r)
-
-pub refusal_room : (h : List ℕ) (i l c : ℕ) → length h ≡ held_words → number_at < length (set (set (set (set h phase_at 3) mark_at i) (mark_at + 1) l) (mark_at + 2) c)
-refusal_room h i l c e =
-    let a = set h phase_at 3 in
-    let b = set a mark_at i in
-    let d = set b (mark_at + 1) l in
-    omega (arith, length-set h phase_at 3, length-set a mark_at i, length-set b (mark_at + 1) l, length-set d (mark_at + 2) c)
 
 pub closed : (h : List ℕ) (m : Counts) {k : ℕ} → k ≡ at_most m.count (word (set h phase_at 2) base_at) → set (set h phase_at 2) until_at (m.count - k) ≡ close_held h m
 closed h m e = rw (e, get_or-set_other h phase_at base_at 2 0 (λ i. omega arith))
