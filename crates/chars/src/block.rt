@@ -1,15 +1,46 @@
 // Blocks of bytes of a class. They are counted by a loop that has no exit and adds 0 or 1 to a byte, so that it is vectorised.
-ghost use Rattle.std.specs.Prelude.{◌≤◌, ◌≡◌, length};
-ghost use Rattle.chars.specs.Blocks.{in_class, ordinary};
-ghost use Rattle.chars.specs.Each.{all_of, count_of, one_of};
+ghost use Rattle.std.specs.Prelude.{◌≤◌, ◌≡◌, ℕ, Bool, length};
+ghost use Rattle.chars.specs.Ascii.{low};
+ghost use Rattle.chars.specs.Blocks.{is_space, ordinary};
+ghost use Rattle.chars.specs.Each.{Blocks, all_of, count_of, one_of};
 
-#[derive(Clone, Copy)]
-pub enum ByteClass {
-    // From 1 to 127: a character other than NUL.
-    Ascii,
-    Space,
-    // Most characters of a plain scalar by far: neither a blank nor one at which it could end.
-    Ordinary,
+pub trait ByteClass {
+    ghost test: { ℕ → Bool };
+
+    fn has(b: u8) -> bool
+        ensures { result ≡ test b };
+}
+
+// From 1 to 127: a character other than NUL.
+pub struct Ascii;
+
+impl ByteClass for Ascii {
+    ghost test = { low };
+
+    fn has(b: u8) -> bool {
+        (0 < b) & (b < 128)
+    }
+}
+
+pub struct Space;
+
+impl ByteClass for Space {
+    ghost test = { is_space };
+
+    fn has(b: u8) -> bool {
+        b == b' '
+    }
+}
+
+// Most characters of a plain scalar by far: neither a blank nor one at which it could end.
+pub struct Ordinary;
+
+impl ByteClass for Ordinary {
+    ghost test = { ordinary };
+
+    fn has(b: u8) -> bool {
+        is_ordinary(b)
+    }
 }
 
 pub fn is_ordinary(b: u8) -> bool
@@ -18,41 +49,44 @@ pub fn is_ordinary(b: u8) -> bool
     (b'-' <= b) & (b <= b'9') | (b';' <= b) & (b <= b'Z') | (b'^' <= b) & (b <= b'z')
 }
 
-fn is_of(class: ByteClass, b: u8) -> bool
-    ensures { result ≡ in_class class b }
-{
-    match class {
-        ByteClass::Ascii => (0 < b) & (b < 128),
-        ByteClass::Space => b == b' ',
-        ByteClass::Ordinary => is_ordinary(b),
-    }
-}
-
 // 1 for a byte of the class, else 0.
-fn one_of(class: ByteClass, b: u8) -> u8
-    ensures { result ≡ one_of (in_class class) b }
+fn one_of<C: ByteClass>(b: u8) -> u8
+    ensures { result ≡ one_of C.test b }
 {
-    if is_of(class, b) { 1 } else { 0 }
+    C::has(b) as u8
 }
 
 // How many of at most 64 bytes are of the class.
-fn count(s: &[u8], class: ByteClass) -> u8
+fn count<C: ByteClass>(s: &[u8]) -> u8
     requires { length s.now ≤ 64 }
-    ensures { result ≡ count_of (in_class class) s.now }
+    ensures { result ≡ count_of C.test s.now }
 {
     let mut n: u8 = 0;
-    let mut i = 0;
-    while i < s.len() {
-        n += one_of(class, s[i]);
-        i += 1;
+    for b in s {
+        n += one_of::<C>(*b);
     }
     n
 }
 
 // Whether all of at most 64 bytes are of the class.
-pub fn all_of(s: &[u8], class: ByteClass) -> bool
+pub fn all_of<C: ByteClass>(s: &[u8]) -> bool
     requires { length s.now ≤ 64 }
-    ensures { result ≡ all_of (in_class class) s.now }
+    ensures { result ≡ all_of C.test s.now }
 {
-    count(s, class) as usize == s.len()
+    count::<C>(s) as usize == s.len()
+}
+
+// Over blocks of 16 bytes of the class.
+pub fn past_blocks<C: ByteClass>(text: &[u8], start: usize) -> usize
+    requires { start ≤ length text.now }
+    ensures { Blocks C.test text.now start result }
+{
+    let mut at = start;
+    while at + 16 <= text.len() {
+        if !all_of::<C>(&text[at..at + 16]) {
+            return at;
+        }
+        at += 16;
+    }
+    at
 }

@@ -1,5 +1,5 @@
 // The tests of char_traits. 0 stands for the end of the text. `|` and `&` take no branch: a loop that stops at a class gets one bit test.
-ghost use Rattle.std.specs.Prelude.{true, ◌≡◌};
+ghost use Rattle.std.specs.Prelude.{true, ◌≡◌, ℕ, Bool};
 ghost use Rattle.yaml_text.specs.Class.{as_hex, is_alpha, is_anchor, is_blank, is_blank_or_breakz, is_bom, is_break, is_breakz, is_digit, is_flow, is_hex, is_non_space, is_tag, is_uri, is_z};
 
 use crate::code::{
@@ -127,4 +127,62 @@ pub fn is_tag_char(c: u32) -> bool
     ensures { result ≡ is_tag c }
 {
     is_uri_char(c) & !is_flow(c) & (c != EXCLAMATION)
+}
+
+// A class of characters, for a reader that takes a run of them.
+pub trait Class {
+    ghost test: { ℕ → Bool };
+
+    fn has(c: u32) -> bool
+        ensures { result ≡ test c };
+}
+
+pub struct Alpha;
+
+impl Class for Alpha {
+    ghost test = { is_alpha };
+
+    fn has(c: u32) -> bool {
+        is_alpha(c)
+    }
+}
+
+pub struct AnchorChar;
+
+impl Class for AnchorChar {
+    ghost test = { is_anchor };
+
+    fn has(c: u32) -> bool {
+        is_anchor_char(c)
+    }
+}
+
+pub struct NonSpace;
+
+impl Class for NonSpace {
+    ghost test = { is_non_space };
+
+    fn has(c: u32) -> bool {
+        is_yaml_non_space(c)
+    }
+}
+
+pub struct UriChar;
+
+impl Class for UriChar {
+    ghost test = { is_uri };
+
+    fn has(c: u32) -> bool {
+        is_uri_char(c)
+    }
+}
+
+pub struct TagChar;
+
+impl Class for TagChar {
+    ghost test = { is_tag };
+
+    fn has(c: u32) -> bool {
+        is_tag_char(c)
+    }
 }

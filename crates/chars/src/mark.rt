@@ -17,24 +17,30 @@ pub struct Place {
     pub mark: Mark,
 }
 
+// The mark of a text's first character.
+pub fn origin() -> Mark
+    ensures { result ≡ origin }
+{
+    Mark {
+        index: 0,
+        line: 1,
+        col: 0,
+    }
+}
+
 impl Place {
     // The first character of a text.
     pub fn start() -> Self
         ensures { result ≡ record { at = 0; mark = origin } }
     {
-        let m = Mark {
-            index: 0,
-            line: 1,
-            col: 0,
-        };
-        Place { at: 0, mark: m }
+        Place::first_at(origin())
     }
 
     // The first byte of a text that begins at a mark.
     pub fn first_at(mark: Mark) -> Self
         ensures { result ≡ record { at = 0; mark = mark } }
     {
-        Place { at: 0, mark: mark }
+        Place { at: 0, mark }
     }
 
     // Over n characters that take so many bytes, none of them a break.

@@ -64,29 +64,14 @@ sets_none l s n i h =
 pub sets_snoc : (l : List ℕ) (n a : ℕ) (t : List ℕ) {m o : List ℕ} → m ≡ sets l n t → o ≡ set m (n + length t) a → o ≡ sets l n (t ++ (a ∷ []))
 sets_snoc l n a t e f = f ∙ rw e (sets_join t (a ∷ []) l n)
 
+-- a from n on
+abbrev pub filled : {A : Type 0} → A → List A → ℕ → List A
+filled a l n = take n l ++ replicate (length l - n) a
+
 -- zeros from n on
 abbrev pub cleared : List ℕ → ℕ → List ℕ
-cleared l n = take n l ++ replicate (length l - n) 0
+cleared = filled 0
 
 -- stores from n on are cleared with the rest
 pub cleared_sets : (t l : List ℕ) (n k : ℕ) → n ≤ k → cleared (sets l k t) n ≡ cleared l n
 cleared_sets t l n k h = rw (take_sets t l n k h, length-sets l k t)
-
--- a loop that clears a room from n on, with i next: what is left gives the whole
-pub record Clearing (before : List ℕ) (n : ℕ) (out : List ℕ) (i : ℕ) : Type 0 where
-  pub same : length out ≡ length before
-  pub whole : cleared before n ≡ cleared out i
-
-pub cleared_more : {before out : List ℕ} {n i : ℕ} → Clearing before n out i → i < length out → Clearing before n (set out i 0) (i + 1)
-cleared_more {out = out} {i = i} w h =
-    let e : length out - i ≡ suc (length out - suc i) = omega arith in
-    record {
-      same = length-set out i 0 ∙ w.same;
-      whole = w.whole
-          ∙ rw (add-one, e, length-set, take-suc-set out i 0 h) (sym (append_assoc (take i out) (0 ∷ []) (replicate (length out - suc i) 0)));
-    }
-
-pub cleared_done : {before out : List ℕ} {n i : ℕ} → Clearing before n out i → length out ≤ i → out ≡ cleared before n
-cleared_done {out = out} {i = i} w h =
-    let e : length out - i ≡ 0 = omega arith in
-    sym (w.whole ∙ rw (e, take_all i out h) (append-nil out))

@@ -4,7 +4,7 @@
 ghost use Rattle.std.specs.Prelude.{◌≡◌, ◌%◌, ◌+◌, ◌-◌, ◌^◌, ◌<◌, length, set};
 ghost use Rattle.std.proofs.lemmas.List.Edits.{sets};
 ghost use Rattle.yaml_text.specs.Utf8.{char_bytes};
-ghost use Rattle.rooms.specs.Room.{cleared};
+ghost use Rattle.rooms.specs.Room.{filled};
 
 // A count as a word of a record.
 pub fn as_word(n: usize) -> u32
@@ -22,29 +22,13 @@ pub fn put(out: &mut [u8], n: usize, b: u8)
     }
 }
 
-// How many of k items fit behind the first n of a room.
-fn fitting(room: usize, n: usize, k: usize) -> usize
-    ensures { result ≡ k - (n + k - room) }
-{
-    if room <= n {
-        return 0;
-    }
-    let left = room - n;
-    if left < k {
-        return left;
-    }
-    k
-}
-
-// Stores the bytes of s from n on. The room is measured once, so that the loop is a plain copy.
-pub fn copy(out: &mut [u8], n: usize, s: &[u8])
+// Stores the items of s from n on, as far as there is room.
+pub fn copy<T: Copy>(out: &mut [T], n: usize, s: &[T])
     ensures { out.new ≡ sets out.old n s.now }
 {
-    let count = fitting(out.len(), n, s.len());
-    let mut i = 0;
-    while i < count {
-        out[n + i] = s[i];
-        i += 1;
+    if n < out.len() {
+        let count = s.len().min(out.len() - n);
+        out[n..n + count].copy_from_slice(&s[..count]);
     }
 }
 
@@ -82,24 +66,47 @@ pub fn put_char(out: &mut [u8], n: usize, c: u32) -> usize
     n + 4
 }
 
-// Zeros from n on.
-pub fn clear_from(out: &mut [u8], n: usize)
-    ensures { out.new ≡ cleared out.old n }
-{
-    let mut i = n;
-    while i < out.len() {
-        out[i] = 0;
-        i += 1;
+// What a room may hold: a number.
+pub trait Number: Copy {
+    ghost zero: { Self };
+
+    fn zero() -> Self
+        ensures { result ≡ zero };
+
+    ghost whole: { (x y : Self) → Self.is_clone x y → y ≡ x };
+
+    ghost free: { (x : Self) → Self.is_infallible x };
+}
+
+impl Number for u8 {
+    ghost zero = { 0 };
+
+    ghost whole = { λ x y e. e };
+
+    ghost free = { λ x. tt };
+
+    fn zero() -> u8 {
+        0
     }
 }
 
-// The same for words.
-pub fn clear_words_from(words: &mut [u32], n: usize)
-    ensures { words.new ≡ cleared words.old n }
+impl Number for u32 {
+    ghost zero = { 0 };
+
+    ghost whole = { λ x y e. e };
+
+    ghost free = { λ x. tt };
+
+    fn zero() -> u32 {
+        0
+    }
+}
+
+// Zeros from n on.
+pub fn clear_from<T: Number>(out: &mut [T], n: usize)
+    ensures { out.new ≡ filled T.zero out.old n }
 {
-    let mut i = n;
-    while i < words.len() {
-        words[i] = 0;
-        i += 1;
+    if n < out.len() {
+        out[n..].fill(T::zero());
     }
 }
