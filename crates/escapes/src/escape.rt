@@ -6,17 +6,18 @@ ghost use Rattle.chars.specs.View.{Stands};
 ghost use Rattle.escapes.specs.Escaped.{Escapes};
 ghost use Rattle.escapes.specs.Parts.{Letter};
 
-use crate::answer::{Escape, refuse};
-use crate::hex::{Hex, hex_number};
+use crate::answer::Escaped;
+use crate::hex::hex_number;
 use chars::code::{
     BACKSLASH, CARRIAGE_RETURN, DOUBLE_QUOTE, LINE_FEED, LOWER_A, LOWER_B, LOWER_E, LOWER_F,
     LOWER_N, LOWER_R, LOWER_T, LOWER_U, LOWER_V, LOWER_X, SLASH, SPACE, TAB, UNDERSCORE, UPPER_L,
     UPPER_N, UPPER_P, UPPER_U, ZERO,
 };
 use chars::mark::Place;
+use chars::refuse::refuse;
 use utf8::{is_scalar, look};
 use yaml_lexeme::Named;
-use yaml_text::Mark;
+use yaml_text::{Mark, Refusal};
 
 // What a letter behind the backslash is.
 fn letter(c: u32) -> Named
@@ -49,23 +50,26 @@ fn letter(c: u32) -> Named
 }
 
 // The escape whose backslash stands at p.
-pub fn escape(text: &[u8], p: Place, start: Mark) -> Escape
+pub fn escape(text: &[u8], p: Place, start: Mark) -> Result<Escaped, Refusal>
     requires { Stands text.now p × (p.at + 1 ≤ length text.now) }
     ensures { Escapes text.now p result (escape start (chars (drop (p.at + 1) text.now))) }
 {
     let at = p.at + 1;
     let l = letter(look(text, at));
     match l {
-        Named::Stands(c) => Escape::One(c, p.skip_n_non_blank(2)),
+        Named::Stands(code) => {
+            let next = p.skip_n_non_blank(2);
+            Ok(Escaped { code, next })
+        }
         Named::Digits(n) => {
-            let h = hex_number(text, at + 1, n);
-            let Hex::Value(v) = h else {
+            let Some(code) = hex_number(text, at + 1, n) else {
                 return refuse(38, start);
             };
-            if is_scalar(0, v) {
-                return Escape::One(v, p.skip_n_non_blank(n + 2));
+            if !is_scalar(0, code) {
+                return refuse(39, start);
             }
-            refuse(39, start)
+            let next = p.skip_n_non_blank(n + 2);
+            Ok(Escaped { code, next })
         }
         Named::Unknown => refuse(37, start),
     }

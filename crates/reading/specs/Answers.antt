@@ -1,8 +1,9 @@
 -- What a reader answers, put together: a token with its texts written from the room's front, or a refusal, which has cleared the room.
-use Rattle.std.specs.Prelude.{◌%◌, ◌+◌, ◌^◌, ◌≤◌, ℕ, List, ◌≡◌, refl, get_or, length, replicate}
+use Rattle.std.specs.Prelude.{◌%◌, ◌+◌, ◌^◌, ◌≤◌, ℕ, List, Result, Ok, Err, ◌≡◌, refl, get_or, length, replicate}
 use Rattle.std.proofs.Common.{◌∙◌, sym, arith}
 use Rattle.std.proofs.lemmas.List.Edits.{sets}
 use Rattle.yaml_text.specs.declared.Mark.{Mark}
+use Rattle.yaml_text.specs.declared.Refusal.{Refusal}
 use Rattle.yaml_text.specs.Mark.{along}
 use Rattle.yaml_text.specs.All.{All, holds}
 use Rattle.yaml_text.specs.Refusal.{Read, got, refused}
@@ -15,32 +16,30 @@ use Rattle.chars.specs.Bytes.{CharAt, byte_char}
 use Rattle.chars.specs.Places.{stands_along}
 use Rattle.chars.specs.View.{Stands, past, view}
 use Rattle.reading.specs.declared.Lexeme.{Lexeme}
-use Rattle.reading.specs.declared.Reading.{Reading}
-use Rattle.reading.specs.declared.Reading.TheVariants.{Got, Refused}
 use Rattle.reading.specs.Reading.{ReadsAhead, Behind, Clears, ReaderGiven, Indicated, Lexes, bytes_after, cleared, first_at, laid_read, seen}
 
 -- what a reader answers, without the lent bytes
-pub record ReaderAnswers (text : List ℕ) (used : ℕ) (r : Reading) (d : Read tokens.Lexeme) : Type 0 where
+pub record ReaderAnswers (text : List ℕ) (used : ℕ) (r : Result Lexeme Refusal) (d : Read tokens.Lexeme) : Type 0 where
   pub same : seen text r ≡ laid_read used d
   pub ahead : ReadsAhead text r
 
-module _ {text : List ℕ} {used : ℕ} {r : Reading} {d : Read tokens.Lexeme} where
-  pub answers_got : {x : Lexeme} {l : tokens.Lexeme} → r ≡ Got x → d ≡ got l → x.token ≡ laid_token used l.token → view text x.next ≡ l.place
+module _ {text : List ℕ} {used : ℕ} {r : Result Lexeme Refusal} {d : Read tokens.Lexeme} where
+  pub answers_got : {x : Lexeme} {l : tokens.Lexeme} → r ≡ Ok x → d ≡ got l → x.token ≡ laid_token used l.token → view text x.next ≡ l.place
       → Behind text x → ReaderAnswers text used r d
   unfolding seen laid_read
   answers_got e f t p h = rw (e, f) (record { same = rw (t, p); ahead = h })
 
-  pub answers_refused : {n : ℕ} {m : Mark} → r ≡ Refused (record { number = n; mark = m }) → d ≡ refused n m → ReaderAnswers text used r d
+  pub answers_refused : {n : ℕ} {m : Mark} → r ≡ Err (record { number = n; mark = m }) → d ≡ refused n m → ReaderAnswers text used r d
   unfolding seen laid_read
   answers_refused e f = rw (e, f) (record { same = refl; ahead = tt })
 
   module _ {before after : List ℕ} where
-    pub lexes_got : {x : Lexeme} {l : tokens.Lexeme} → r ≡ Got x → d ≡ got l → x.token ≡ laid_token used l.token → view text x.next ≡ l.place
+    pub lexes_got : {x : Lexeme} {l : tokens.Lexeme} → r ≡ Ok x → d ≡ got l → x.token ≡ laid_token used l.token → view text x.next ≡ l.place
         → after ≡ sets before 0 (tokens.token_bytes l.token) → Behind text x → Lexes text before after used r d
     unfolding bytes_after
     lexes_got e f t p b h = let w = answers_got e f t p h in record { same = w.same; bytes = b ∙ rw f; ahead = w.ahead }
 
-    pub lexes_refused : {n : ℕ} {m : Mark} → r ≡ Refused (record { number = n; mark = m }) → d ≡ refused n m → after ≡ replicate (length before) 0
+    pub lexes_refused : {n : ℕ} {m : Mark} → r ≡ Err (record { number = n; mark = m }) → d ≡ refused n m → after ≡ replicate (length before) 0
         → Lexes text before after used r d
     unfolding bytes_after
     lexes_refused e f b = let w = answers_refused e f in record { same = w.same; bytes = b ∙ rw f; ahead = w.ahead }
@@ -49,17 +48,23 @@ module _ {text : List ℕ} {used : ℕ} {r : Reading} {d : Read tokens.Lexeme} w
 abbrev pub TextsIn : List ℕ → List ℕ → Read tokens.Lexeme → Type 0
 TextsIn before mid d = All tokens.Lexeme (λ l. mid ≡ sets before 0 (tokens.token_bytes l.token)) d
 
+-- a reader's contract before its refusal has cleared the room; of the bytes that a refusal leaves it tells only how many they are
+pub record Reads (text before after : List ℕ) (used : ℕ) (r : Result Lexeme Refusal) (d : Read tokens.Lexeme) : Type 0 where
+  pub answers : ReaderAnswers text used r d
+  pub texts : TextsIn before after d
+  pub kept : length after ≡ length before
+
 apart : {A B : Type 0} {a : A} {n : ℕ} {m : Mark} → got a ≡ refused n m → B
 apart e = let z : ◌≡◌ {A = ℕ} 0 1 = cc in absurd (omega arith)
 
 -- what was answered, once a refusal has cleared the room
-pub lexes_cleared : {text before mid after : List ℕ} {used : ℕ} {e : Reading} (r : Reading) (d : Read tokens.Lexeme) → ReaderAnswers text used r d → TextsIn before mid d
+pub lexes_cleared : {text before mid after : List ℕ} {used : ℕ} {e : Result Lexeme Refusal} (r : Result Lexeme Refusal) (d : Read tokens.Lexeme) → ReaderAnswers text used r d → TextsIn before mid d
     → length mid ≡ length before → Clears mid after r e → Lexes text before after used e d
 unfolding seen laid_read bytes_after cleared
-lexes_cleared (Got l) (got x) h (holds w) i k = rw k.same (record { same = h.same; bytes = k.bytes ∙ w; ahead = h.ahead })
-lexes_cleared (Got l) (refused n m) h w i k = apart h.same
-lexes_cleared (Refused f) (got x) h w i k = apart (sym h.same)
-lexes_cleared (Refused f) (refused n m) h w i k = rw k.same (record { same = h.same; bytes = rw i at k.bytes; ahead = tt })
+lexes_cleared (Ok l) (got x) h (holds w) i k = rw k.same (record { same = h.same; bytes = k.bytes ∙ w; ahead = h.ahead })
+lexes_cleared (Ok l) (refused n m) h w i k = apart h.same
+lexes_cleared (Err f) (got x) h w i k = apart (sym h.same)
+lexes_cleared (Err f) (refused n m) h w i k = rw k.same (record { same = h.same; bytes = rw i at k.bytes; ahead = tt })
 
 -- the place behind an indicator
 abbrev pub behind_first : Mark → Place

@@ -1,8 +1,9 @@
 -- What a reader answers, held against the definition: the token with its texts laid behind the bytes used so far, the place behind
 -- it, and what the lent bytes hold at exit.
-use Rattle.std.specs.Prelude.{◌*◌, ◌+◌, ◌^◌, ◌<◌, ◌≤◌, ℕ, List, ◌≡◌, get_or, length, replicate}
+use Rattle.std.specs.Prelude.{◌*◌, ◌+◌, ◌^◌, ◌<◌, ◌≤◌, ℕ, List, Result, Ok, Err, ◌≡◌, get_or, length, replicate}
 use Rattle.std.proofs.lemmas.List.Edits.{sets}
 use Rattle.yaml_text.specs.declared.Mark.{Mark}
+use Rattle.yaml_text.specs.declared.Refusal.{Refusal}
 use Rattle.yaml_text.specs.Mark as definition
 use Rattle.yaml_text.specs.Refusal.{Read, got, refused}
 use Rattle.yaml_lexeme.specs.declared.Token.{Token}
@@ -13,10 +14,6 @@ use Rattle.yaml_lexeme.specs.Record.{laid_token}
 use Rattle.chars.specs.declared.mark.Place.{Place}
 use Rattle.chars.specs.View.{Stands, view}
 use Rattle.reading.specs.declared.Lexeme.{Lexeme}
-use Rattle.reading.specs.declared.Reached.{Reached}
-use Rattle.reading.specs.declared.Reached.TheVariants as reached
-use Rattle.reading.specs.declared.Reading.{Reading}
-use Rattle.reading.specs.declared.Reading.TheVariants as reading
 
 -- a reader's own first byte, at the mark m
 abbrev pub first_at : Mark → Place
@@ -39,9 +36,9 @@ pub record Seen : Type 0 where
   pub place : definition.Place
 
 -- what code answers
-unfoldable pub seen : List ℕ → Reading → Read Seen
-seen text (reading.Got l) = got (record { token = l.token; place = view text l.next })
-seen text (reading.Refused f) = refused f.number f.mark
+unfoldable pub seen : List ℕ → Result Lexeme Refusal → Read Seen
+seen text (Ok l) = got (record { token = l.token; place = view text l.next })
+seen text (Err f) = refused f.number f.mark
 
 -- what the definition answers, its texts behind the bytes used so far
 unfoldable pub laid_read : ℕ → Read tokens.Lexeme → Read Seen
@@ -85,34 +82,34 @@ pub record Behind (text : List ℕ) (l : Lexeme) : Type 0 where
   pub some : 1 ≤ l.next.at
   pub size : text_size l.token.kind ≤ 3 * l.next.at
 
-abbrev pub ReadsAhead : List ℕ → Reading → Type 0
-ReadsAhead text (reading.Got l) = Behind text l
-ReadsAhead text (reading.Refused f) = Unit {0}
+abbrev pub ReadsAhead : List ℕ → Result Lexeme Refusal → Type 0
+ReadsAhead text (Ok l) = Behind text l
+ReadsAhead text (Err f) = Unit {0}
 
 -- the contract of a reader
-pub record Lexes (text before after : List ℕ) (used : ℕ) (r : Reading) (d : Read tokens.Lexeme) : Type 0 where
+pub record Lexes (text before after : List ℕ) (used : ℕ) (r : Result Lexeme Refusal) (d : Read tokens.Lexeme) : Type 0 where
   pub same : seen text r ≡ laid_read used d
   pub bytes : after ≡ bytes_after before d
   pub ahead : ReadsAhead text r
 
 -- a refusal leaves the lent bytes all zero, and anything else leaves them as they are
-unfoldable pub cleared : List ℕ → Reading → List ℕ
-cleared before (reading.Got l) = before
-cleared before (reading.Refused f) = replicate (length before) 0
+unfoldable pub cleared : List ℕ → Result Lexeme Refusal → List ℕ
+cleared before (Ok l) = before
+cleared before (Err f) = replicate (length before) 0
 
-pub record Clears (before after : List ℕ) (r e : Reading) : Type 0 where
+pub record Clears (before after : List ℕ) (r e : Result Lexeme Refusal) : Type 0 where
   pub same : e ≡ r
   pub bytes : after ≡ cleared before r
 
 -- the same of a place that is reached, or not
-unfoldable pub seen_place : List ℕ → Reached → Read definition.Place
-seen_place text (reached.To p) = got (view text p)
-seen_place text (reached.Refused f) = refused f.number f.mark
+unfoldable pub seen_place : List ℕ → Result Place Refusal → Read definition.Place
+seen_place text (Ok p) = got (view text p)
+seen_place text (Err f) = refused f.number f.mark
 
-abbrev pub Onward : List ℕ → Place → Reached → Type 0
-Onward text p (reached.To q) = Stands text q × (p.at ≤ q.at)
-Onward text p (reached.Refused f) = Unit {0}
+abbrev pub Onward : List ℕ → Place → Result Place Refusal → Type 0
+Onward text p (Ok q) = Stands text q × (p.at ≤ q.at)
+Onward text p (Err f) = Unit {0}
 
-pub record ReachesAs (text : List ℕ) (p : Place) (r : Reached) (d : Read definition.Place) : Type 0 where
+pub record ReachesAs (text : List ℕ) (p : Place) (r : Result Place Refusal) (d : Read definition.Place) : Type 0 where
   pub same : seen_place text r ≡ d
   pub onward : Onward text p r

@@ -6,10 +6,9 @@ ghost use Rattle.std.proofs.lemmas.List.Edits.{sets};
 ghost use Rattle.yaml_lexeme.specs.Fold.{fold};
 ghost use Rattle.reading.specs.Puts.{Puts};
 ghost use Rattle.reading.specs.Reading.{Clears};
-ghost use Rattle.reading.specs.declared.Reached.TheVariants as reached;
-ghost use Rattle.reading.specs.declared.Reading.TheVariants as reading;
 
 use chars::mark::Place;
+use chars::refuse::refuse;
 use yaml_lexeme::{Kind, Text, Token};
 use yaml_text::{Mark, Refusal};
 
@@ -20,49 +19,20 @@ pub struct Lexeme {
     pub next: Place,
 }
 
+impl Lexeme {
+    pub fn new(kind: Kind, start: Mark, end: Mark, next: Place) -> Lexeme
+        ensures { result ≡ record { token = record { kind = kind; start = start; end = end }; next = next } }
+    {
+        let token = Token { kind, start, end };
+        Lexeme { token, next }
+    }
+}
+
+// Texts that were written, up to `count`, where the next byte goes, with the place behind what was read.
 #[derive(Clone, Copy)]
-pub enum Reading {
-    Got(Lexeme),
-    Refused(Refusal),
-}
-
-// A place, or a refusal on the way there.
-#[derive(Clone, Copy)]
-pub enum Reached {
-    To(Place),
-    Refused(Refusal),
-}
-
-pub fn got(kind: Kind, start: Mark, end: Mark, next: Place) -> Reading
-    ensures { result ≡ reading.Got (record { token = record { kind = kind; start = start; end = end }; next = next }) }
-{
-    let t = Token {
-        kind: kind,
-        start: start,
-        end: end,
-    };
-    Reading::Got(Lexeme {
-        token: t,
-        next: next,
-    })
-}
-
-pub fn refuse(number: u32, mark: Mark) -> Reading
-    ensures { result ≡ reading.Refused (record { number = number; mark = mark }) }
-{
-    Reading::Refused(Refusal {
-        number: number,
-        mark: mark,
-    })
-}
-
-pub fn stuck(number: u32, mark: Mark) -> Reached
-    ensures { result ≡ reached.Refused (record { number = number; mark = mark }) }
-{
-    Reached::Refused(Refusal {
-        number: number,
-        mark: mark,
-    })
+pub struct Written {
+    pub count: usize,
+    pub place: Place,
 }
 
 // A text of n bytes behind the bytes used so far.
@@ -83,29 +53,28 @@ pub fn clear(out: &mut [u8])
 }
 
 // A refusal, which leaves the lent bytes all zero.
-pub fn pass_on(f: Refusal, out: &mut [u8]) -> Reading
-    ensures { (result ≡ reading.Refused f) × (out.new ≡ replicate (length out.old) 0) }
+pub fn pass_on<T>(f: Refusal, out: &mut [u8]) -> Result<T, Refusal>
+    ensures { (result ≡ Err f) × (out.new ≡ replicate (length out.old) 0) }
 {
     clear(out);
-    Reading::Refused(f)
+    Err(f)
 }
 
 // The same by its number.
-pub fn refuse_out(number: u32, mark: Mark, out: &mut [u8]) -> Reading
-    ensures { (result ≡ reading.Refused (record { number = number; mark = mark })) × (out.new ≡ replicate (length out.old) 0) }
+pub fn refuse_out<T>(number: u32, mark: Mark, out: &mut [u8]) -> Result<T, Refusal>
+    ensures { (result ≡ Err (record { number = number; mark = mark })) × (out.new ≡ replicate (length out.old) 0) }
 {
     clear(out);
     refuse(number, mark)
 }
 
-// A refusal leaves the lent bytes all zero.
-pub fn clear_refused(r: Reading, out: &mut [u8]) -> Reading
+// What a reader answers whose own readers leave the lent bytes as they are at a refusal: it leaves them all zero.
+pub fn clear_refused(r: Result<Lexeme, Refusal>, out: &mut [u8]) -> Result<Lexeme, Refusal>
     ensures { Clears out.old out.new r result }
 {
-    let Reading::Got(_) = r else {
+    if r.is_err() {
         clear(out);
-        return r;
-    };
+    }
     r
 }
 
@@ -114,12 +83,10 @@ pub fn put_breaks(out: &mut [u8], n: usize, k: u32) -> usize
     requires { n < 2 ^ 62 }
     ensures { (out.new ≡ sets out.old n (replicate k 10)) × (result ≡ n + k) }
 {
-    let mut i = 0;
     let mut e = n;
-    while i < k {
+    for _ in 0..k {
         rooms::put(out, e, b'\n');
         e += 1;
-        i += 1;
     }
     e
 }
