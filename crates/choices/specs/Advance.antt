@@ -1,6 +1,7 @@
 -- The way to the next token: the gap, the lapse, the unrolling, held against the definition.
-use Rattle.std.specs.Prelude.{◌+◌, ◌≤◌, ℕ, List, ◌≡◌}
+use Rattle.std.specs.Prelude.{◌+◌, ◌≤◌, ℕ, List, ◌≡◌, Result, Ok, Err}
 use Rattle.yaml_text.specs.declared.Mark.{Mark}
+use Rattle.yaml_text.specs.declared.Refusal.{Refusal}
 use Rattle.yaml_text.specs.Refusal.{got, refused}
 use Rattle.yaml_scan.specs.declared.Limits.{Limits}
 use Rattle.yaml_scan.specs.Scan.{to_next_token, unrolled}
@@ -11,7 +12,6 @@ use Rattle.states.specs.Fetch.{Ready}
 use Rattle.states.specs.Key.{lapsed_words}
 use Rattle.states.specs.State.{s_with_indents, state_of}
 use Rattle.choices.specs.declared.advance.Advanced.{Advanced}
-use Rattle.choices.specs.declared.advance.Advanced.TheVariants.{Refused, To}
 
 -- the blocks that end at the column of s
 pub record UnrollsHere (stacks : List ℕ) (s : State) (u : Unrolled) : Type 0 where
@@ -35,6 +35,6 @@ pub record Stops (text a e : List ℕ) (s : State) (n : ℕ) (m : Mark) : Type 0
   pub same : (count : ℕ) → to_next_token (state_of text a count s) ≡ refused n m
   pub words : e ≡ a
 
-abbrev pub Advances : Limits → List ℕ → List ℕ → List ℕ → State → Advanced → Type 0
-Advances limits text a e s (To t ended) = AdvancesTo limits text a e s t ended
-Advances limits text a e s (Refused f) = Stops text a e s f.number f.mark
+abbrev pub Advances : Limits → List ℕ → List ℕ → List ℕ → State → Result Advanced Refusal → Type 0
+Advances limits text a e s (Ok r) = AdvancesTo limits text a e s r.state r.ended
+Advances limits text a e s (Err f) = Stops text a e s f.number f.mark

@@ -1,26 +1,27 @@
 // After gaps, lapse and unrolling to the column.
-ghost use Rattle.std.specs.Prelude.{◌^◌, ◌<◌, ◌≤◌, length};
+ghost use Rattle.std.specs.Prelude.{◌^◌, ◌<◌, ◌≤◌};
 ghost use Rattle.stacks.specs.Indent.{Low};
-ghost use Rattle.stacks.specs.Stack.{entry_words, stack_words};
+ghost use Rattle.stacks.specs.Stack.{entry_words};
 ghost use Rattle.states.specs.Fetch.{Ready};
 ghost use Rattle.choices.specs.Advance.{Advances, UnrollsHere};
 
-use gaps::{Gapped, skip_gap};
+use gaps::skip_gap;
+use stacks::STACK_WORDS;
 use stacks::indent::{Unrolled, unroll};
-use states::{Lapsed, State};
+use states::State;
 use yaml_scan::Limits;
 use yaml_text::Refusal;
 
-// A state before a token, and how many blocks ended there; or a refusal.
+// A state before a token, and how many blocks ended there.
 #[derive(Clone, Copy)]
-pub enum Advanced {
-    To { state: State, ended: u32 },
-    Refused(Refusal),
+pub struct Advanced {
+    pub state: State,
+    pub ended: u32,
 }
 
 // To the column; in flow nothing ends.
-fn unrolled(s: State, stacks: &[u32]) -> Unrolled
-    requires { Low entry_words s.indents × (stack_words ≤ length stacks.now) × (s.place.mark.col < 2 ^ 31) }
+fn unrolled(s: State, stacks: &[u32; STACK_WORDS]) -> Unrolled
+    requires { Low entry_words s.indents × (s.place.mark.col < 2 ^ 31) }
     ensures { UnrollsHere stacks.now s result }
 {
     let i = s.indents;
@@ -34,32 +35,27 @@ fn unrolled(s: State, stacks: &[u32]) -> Unrolled
 }
 
 // The gap, then the lapse, then the unrolling.
-pub fn to_next_token(limits: Limits, text: &[u8], s: State, stacks: &mut [u32]) -> Advanced
+pub fn to_next_token(
+    limits: Limits,
+    text: &[u8],
+    s: State,
+    stacks: &mut [u32; STACK_WORDS],
+) -> Result<Advanced, Refusal>
     requires { Ready limits text.now stacks.old s }
     ensures { Advances limits text.now stacks.old stacks.new s result }
 {
-    let r = skip_gap(
+    let g = skip_gap(
         text,
         s.place,
         0 < s.flow_level,
         s.simple_key_allowed,
         s.leading_whitespace,
-    );
-    match r {
-        Gapped::Refused(f) => Advanced::Refused(f),
-        Gapped::Got(g) => {
-            let t = s.moved(g.place, g.leading_whitespace, g.simple_key_allowed);
-            let l = t.lapse_key(stacks);
-            match l {
-                Lapsed::Refused(f) => Advanced::Refused(f),
-                Lapsed::Passed => {
-                    let u = unrolled(t, stacks);
-                    Advanced::To {
-                        state: t.with_indents(u.indents),
-                        ended: u.ended,
-                    }
-                }
-            }
-        }
-    }
+    )?;
+    let t = s.moved(g.place, g.leading_whitespace, g.simple_key_allowed);
+    t.lapse_key(stacks)?;
+    let u = unrolled(t, stacks);
+    Ok(Advanced {
+        state: t.with_indents(u.indents),
+        ended: u.ended,
+    })
 }

@@ -1,5 +1,5 @@
 -- Entries that come: what `stack` and `roll` make of the lent words, and what the definition sees of it. The frames stay.
-use Rattle.std.specs.Prelude.{◌+◌, ◌≤◌, ℕ, Bool, true, List, ◌≡◌, ltb, length, set}
+use Rattle.std.specs.Prelude.{◌+◌, ◌≤◌, ℕ, Bool, true, List, ◌≡◌, Result, Ok, Err, ltb, length, set}
 use Rattle.yaml_text.specs.declared.Mark.{Mark}
 use Rattle.yaml_text.specs.declared.Refusal.{Refusal}
 use Rattle.yaml_text.specs.Pick.{pick}
@@ -9,19 +9,16 @@ use Rattle.yaml_scan.specs.Indent as definition
 use Rattle.stacks.specs.Frame.{FramesStay}
 use Rattle.stacks.specs.Indent.{Low, entries_of, indents_seen, word_of}
 use Rattle.stacks.specs.declared.indent.Indents.{Indents}
-use Rattle.stacks.specs.declared.indent.Stacked as stacked
-use Rattle.stacks.specs.declared.indent.Stacked.TheVariants as stacked_as
-use Rattle.stacks.specs.declared.indent.Rolled as rolled
-use Rattle.stacks.specs.declared.indent.Rolled.TheVariants as rolled_as
+use Rattle.stacks.specs.declared.indent.Rolled.{Rolled}
 
 -- what the definition sees
-abbrev pub stacked_seen : List ℕ → stacked.Stacked → Read definition.Indents
-stacked_seen a (stacked_as.Got i) = got (indents_seen a i)
-stacked_seen a (stacked_as.Refused f) = refused f.number f.mark
+abbrev pub stacked_seen : List ℕ → Result Indents Refusal → Read definition.Indents
+stacked_seen a (Ok i) = got (indents_seen a i)
+stacked_seen a (Err f) = refused f.number f.mark
 
-abbrev pub rolled_seen : List ℕ → rolled.Rolled → Read definition.Rolled
-rolled_seen a (rolled_as.Got starts i) = got (record { starts = starts; indents = indents_seen a i })
-rolled_seen a (rolled_as.Refused f) = refused f.number f.mark
+abbrev pub rolled_seen : List ℕ → Result Rolled Refusal → Read definition.Rolled
+rolled_seen a (Ok r) = got (record { starts = r.starts; indents = indents_seen a r.indents })
+rolled_seen a (Err f) = refused f.number f.mark
 
 -- the refusal of a full stack
 abbrev pub full_at : Mark → Refusal
@@ -42,16 +39,16 @@ rolled_words room edge a s =
     let d = drop_for edge s.indent s.entries in
     pick (ltb d.indent edge) (stored room true a d) a
 
-abbrev pub LowStacked : ℕ → stacked.Stacked → Type 0
-LowStacked room (stacked_as.Got i) = Low room i
-LowStacked room (stacked_as.Refused f) = Unit {0}
+abbrev pub LowStacked : ℕ → Result Indents Refusal → Type 0
+LowStacked room (Ok i) = Low room i
+LowStacked room (Err f) = Unit {0}
 
-abbrev pub LowRolled : ℕ → rolled.Rolled → Type 0
-LowRolled room (rolled_as.Got starts i) = Low room i
-LowRolled room (rolled_as.Refused f) = Unit {0}
+abbrev pub LowRolled : ℕ → Result Rolled Refusal → Type 0
+LowRolled room (Ok r) = Low room r.indents
+LowRolled room (Err f) = Unit {0}
 
 -- `stack`, from the words a to e; a refusal is at m
-pub record Stacks (a e : List ℕ) (room : ℕ) (m : Mark) (indent : ℕ) (ends : Bool) (i : Indents) (r : stacked.Stacked) : Type 0 where
+pub record Stacks (a e : List ℕ) (room : ℕ) (m : Mark) (indent : ℕ) (ends : Bool) (i : Indents) (r : Result Indents Refusal) : Type 0 where
   pub same : stacked_seen e r ≡ stack room m indent ends (indents_seen a i)
   pub words : e ≡ stored room ends a (indents_seen a i)
   pub below : (n : ℕ) → n ≤ i.depth → entries_of e n ≡ entries_of a n
@@ -59,7 +56,7 @@ pub record Stacks (a e : List ℕ) (room : ℕ) (m : Mark) (indent : ℕ) (ends 
   pub low : LowStacked room r
 
 -- `roll`, from the words a to e; a refusal is at m
-pub record Rolls (a e : List ℕ) (room : ℕ) (m : Mark) (edge : ℕ) (i : Indents) (r : rolled.Rolled) : Type 0 where
+pub record Rolls (a e : List ℕ) (room : ℕ) (m : Mark) (edge : ℕ) (i : Indents) (r : Result Rolled Refusal) : Type 0 where
   pub same : rolled_seen e r ≡ roll room m edge (indents_seen a i)
   pub words : e ≡ rolled_words room edge a (indents_seen a i)
   pub frames : FramesStay a e

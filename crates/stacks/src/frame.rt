@@ -1,11 +1,10 @@
 // Frames: the candidate and the flow level's data of each flow level, six words each.
-ghost use Rattle.std.specs.Prelude.{◌≡◌, ◌≤◌, length};
+ghost use Rattle.std.specs.Prelude.{◌≡◌, ◌≤◌};
 ghost use Rattle.yaml_scan.specs.declared.Candidate.TheVariants as candidate;
 ghost use Rattle.yaml_scan.specs.Keys.{is_required};
-ghost use Rattle.stacks.specs.Stack.{stack_words};
 ghost use Rattle.stacks.specs.Frame.{SetsKey, SetsLevel, key_of, level_of, level_word};
 
-use crate::{ENTRIES, FRAME_WORDS, at_most};
+use crate::{ENTRIES, FRAME_WORDS, STACK_WORDS};
 use yaml_scan::{Candidate, Level};
 use yaml_text::Mark;
 
@@ -17,8 +16,8 @@ fn level_word(l: Level) -> u32
 }
 
 // The candidate of a level.
-pub fn key(stacks: &[u32], level: usize) -> Candidate
-    requires { (level ≤ 255) × (stack_words ≤ length stacks.now) }
+pub fn key(stacks: &[u32; STACK_WORDS], level: usize) -> Candidate
+    requires { level ≤ 255 }
     ensures { result ≡ key_of stacks.now level }
 {
     let at = ENTRIES + level * FRAME_WORDS;
@@ -26,7 +25,7 @@ pub fn key(stacks: &[u32], level: usize) -> Candidate
     if k == 0 {
         return Candidate::Absent;
     }
-    let col = at_most(1_048_576, stacks[at + 4]);
+    let col = stacks[at + 4].min(1_048_576);
     let m = Mark {
         index: stacks[at + 2],
         line: stacks[at + 3],
@@ -40,24 +39,24 @@ pub fn key(stacks: &[u32], level: usize) -> Candidate
 }
 
 // Whether the candidate of a level is required.
-pub fn is_required(stacks: &[u32], level: usize) -> bool
-    requires { (level ≤ 255) × (stack_words ≤ length stacks.now) }
+pub fn is_required(stacks: &[u32; STACK_WORDS], level: usize) -> bool
+    requires { level ≤ 255 }
     ensures { result ≡ is_required (key_of stacks.now level) }
 {
     stacks[ENTRIES + level * FRAME_WORDS] == 2
 }
 
 // Takes the candidate of a level away.
-pub fn clear_key(stacks: &mut [u32], level: usize)
-    requires { (level ≤ 255) × (stack_words ≤ length stacks.old) }
+pub fn clear_key(stacks: &mut [u32; STACK_WORDS], level: usize)
+    requires { level ≤ 255 }
     ensures { SetsKey stacks.old stacks.new level candidate.Absent }
 {
     stacks[ENTRIES + level * FRAME_WORDS] = 0;
 }
 
 // Saves the candidate of a level.
-pub fn set_key(stacks: &mut [u32], level: usize, required: bool, number: u32, m: Mark)
-    requires { (level ≤ 255) × (stack_words ≤ length stacks.old) × (m.col ≤ 1_048_576) }
+pub fn set_key(stacks: &mut [u32; STACK_WORDS], level: usize, required: bool, number: u32, m: Mark)
+    requires { (level ≤ 255) × (m.col ≤ 1_048_576) }
     ensures { SetsKey stacks.old stacks.new level (candidate.Possible required number m) }
 {
     let at = ENTRIES + level * FRAME_WORDS;
@@ -69,8 +68,8 @@ pub fn set_key(stacks: &mut [u32], level: usize, required: bool, number: u32, m:
 }
 
 // The data of a level.
-pub fn level_data(stacks: &[u32], level: usize) -> Level
-    requires { (level ≤ 255) × (stack_words ≤ length stacks.now) }
+pub fn level_data(stacks: &[u32; STACK_WORDS], level: usize) -> Level
+    requires { level ≤ 255 }
     ensures { result ≡ level_of stacks.now level }
 {
     let w = stacks[ENTRIES + level * FRAME_WORDS + 5];
@@ -82,8 +81,8 @@ pub fn level_data(stacks: &[u32], level: usize) -> Level
     }
 }
 
-pub fn set_level(stacks: &mut [u32], level: usize, l: Level)
-    requires { (level ≤ 255) × (stack_words ≤ length stacks.old) }
+pub fn set_level(stacks: &mut [u32; STACK_WORDS], level: usize, l: Level)
+    requires { level ≤ 255 }
     ensures { SetsLevel stacks.old stacks.new level l }
 {
     stacks[ENTRIES + level * FRAME_WORDS + 5] = level_word(l);

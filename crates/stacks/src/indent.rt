@@ -2,11 +2,12 @@
 // taken back when it goes, times two, and 1 where a BlockEnd is given then.
 ghost use Rattle.std.specs.Prelude.{◌≡◌, ◌+◌, ◌^◌, ◌<◌, ◌≤◌, length, set};
 ghost use Rattle.yaml_scan.specs.Indent.{drop_for, drop_non_ending, top_ends};
-ghost use Rattle.stacks.specs.Stack.{entry_words, stack_words};
+ghost use Rattle.stacks.specs.Stack.{entry_words};
 ghost use Rattle.stacks.specs.Indent.{Low, Lowers, Unrolls, entries_of, entry_of, most_at, word_of};
 ghost use Rattle.stacks.specs.Roll.{Rolls, Stacks, full_at, one_more};
 
-use crate::at_most;
+use crate::STACK_WORDS;
+use chars::refuse::refuse;
 use yaml_text::{Mark, Refusal};
 
 // The indent, and how many entries are stacked.
@@ -16,18 +17,11 @@ pub struct Indents {
     pub depth: usize,
 }
 
-// Indents, or that the stack is full (48).
+// Whether a start token is to be added, and the indents.
 #[derive(Clone, Copy)]
-pub enum Stacked {
-    Got(Indents),
-    Refused(Refusal),
-}
-
-// Whether a start token is to be added, and the indents; or that the stack is full (48).
-#[derive(Clone, Copy)]
-pub enum Rolled {
-    Got { starts: bool, indents: Indents },
-    Refused(Refusal),
+pub struct Rolled {
+    pub starts: bool,
+    pub indents: Indents,
 }
 
 // How many blocks ended, and the indents left.
@@ -38,7 +32,7 @@ pub struct Unrolled {
 }
 
 // Whether the top entry ends in BlockEnd.
-pub fn top_ends(stacks: &[u32], depth: usize) -> bool
+pub fn top_ends(stacks: &[u32; STACK_WORDS], depth: usize) -> bool
     requires { depth ≤ length stacks.now }
     ensures { result ≡ top_ends (entries_of stacks.now depth) }
 {
@@ -53,12 +47,12 @@ fn taken_back(entry: u32, place: usize) -> u32
     requires { place < entry_words }
     ensures { result ≡ (entry_of place entry).old }
 {
-    at_most(1_048_577 + place as u32, entry / 2)
+    (entry / 2).min(1_048_577 + place as u32)
 }
 
 // Entries go while the indent is above the column.
-pub fn unroll(stacks: &[u32], edge: u32, from: Indents) -> Unrolled
-    requires { Low entry_words from × (stack_words ≤ length stacks.now) }
+pub fn unroll(stacks: &[u32; STACK_WORDS], edge: u32, from: Indents) -> Unrolled
+    requires { Low entry_words from }
     ensures { Unrolls stacks.now edge from result }
 {
     let mut indent = from.indent;
@@ -80,8 +74,8 @@ pub fn unroll(stacks: &[u32], edge: u32, from: Indents) -> Unrolled
 }
 
 // The entries that end no block go, as a block scalar does it.
-pub fn drop_non_ending(stacks: &[u32], from: Indents) -> Indents
-    requires { Low entry_words from × (stack_words ≤ length stacks.now) }
+pub fn drop_non_ending(stacks: &[u32; STACK_WORDS], from: Indents) -> Indents
+    requires { Low entry_words from }
     ensures { Lowers stacks.now from result (drop_non_ending from.indent (entries_of stacks.now from.depth)) }
 {
     let mut indent = from.indent;
@@ -97,8 +91,8 @@ pub fn drop_non_ending(stacks: &[u32], from: Indents) -> Indents
 }
 
 // A non-ending top entry is dropped if the indent is at most the column.
-fn drop_for(stacks: &[u32], edge: u32, from: Indents) -> Indents
-    requires { Low entry_words from × (stack_words ≤ length stacks.now) }
+fn drop_for(stacks: &[u32; STACK_WORDS], edge: u32, from: Indents) -> Indents
+    requires { Low entry_words from }
     ensures { Lowers stacks.now from result (drop_for edge from.indent (entries_of stacks.now from.depth)) }
 {
     let depth = from.depth;
@@ -127,18 +121,15 @@ fn entry_word(indent: u32, ends: bool) -> u32
 }
 
 // 48, at m: the stack is full.
-pub fn full(m: Mark) -> Refusal
-    ensures { result ≡ full_at m }
+pub fn full<T>(m: Mark) -> Result<T, Refusal>
+    ensures { result ≡ Err (full_at m) }
 {
-    Refusal {
-        number: 48,
-        mark: m,
-    }
+    refuse(48, m)
 }
 
 // One entry more, and its indent; there is room for it.
-pub fn push(stacks: &mut [u32], indent: u32, ends: bool, from: Indents) -> Indents
-    requires { (from.depth < entry_words) × (from.indent ≤ most_at from.depth) × (stack_words ≤ length stacks.old) }
+pub fn push(stacks: &mut [u32; STACK_WORDS], indent: u32, ends: bool, from: Indents) -> Indents
+    requires { (from.depth < entry_words) × (from.indent ≤ most_at from.depth) }
     ensures { (result ≡ one_more indent from) × (stacks.new ≡ set stacks.old from.depth (word_of from.indent ends)) }
 {
     let depth = from.depth;
@@ -151,40 +142,43 @@ pub fn push(stacks: &mut [u32], indent: u32, ends: bool, from: Indents) -> Inden
 
 // One entry more, and its indent, if the limit allows it.
 fn stack(
-    stacks: &mut [u32],
+    stacks: &mut [u32; STACK_WORDS],
     limit: usize,
     m: Mark,
     indent: u32,
     ends: bool,
     from: Indents,
-) -> Stacked
-    requires { (limit ≤ entry_words) × (from.indent ≤ most_at from.depth) × (indent ≤ most_at (from.depth + 1)) × (stack_words ≤ length stacks.old) }
+) -> Result<Indents, Refusal>
+    requires { (limit ≤ entry_words) × (from.indent ≤ most_at from.depth) × (indent ≤ most_at (from.depth + 1)) }
     ensures { Stacks stacks.old stacks.new limit m indent ends from result }
 {
     if limit <= from.depth {
-        return Stacked::Refused(full(m));
+        return full(m);
     }
-    Stacked::Got(push(stacks, indent, ends, from))
+    Ok(push(stacks, indent, ends, from))
 }
 
 // K4, at level 0. 48, at m: the stack is full.
-pub fn roll(stacks: &mut [u32], limit: usize, m: Mark, edge: u32, from: Indents) -> Rolled
-    requires { (limit ≤ entry_words) × Low limit from × (edge ≤ 1_048_577) × (stack_words ≤ length stacks.old) }
+pub fn roll(
+    stacks: &mut [u32; STACK_WORDS],
+    limit: usize,
+    m: Mark,
+    edge: u32,
+    from: Indents,
+) -> Result<Rolled, Refusal>
+    requires { (limit ≤ entry_words) × Low limit from × (edge ≤ 1_048_577) }
     ensures { Rolls stacks.old stacks.new limit m edge from result }
 {
     let d = drop_for(stacks, edge, from);
     if edge <= d.indent {
-        return Rolled::Got {
+        return Ok(Rolled {
             starts: false,
             indents: d,
-        };
+        });
     }
-    let s = stack(stacks, limit, m, edge, true, d);
-    match s {
-        Stacked::Refused(f) => Rolled::Refused(f),
-        Stacked::Got(i) => Rolled::Got {
-            starts: true,
-            indents: i,
-        },
-    }
+    let i = stack(stacks, limit, m, edge, true, d)?;
+    Ok(Rolled {
+        starts: true,
+        indents: i,
+    })
 }

@@ -1,9 +1,6 @@
 // The stacks that a step is lent, one slice: indent entries (K4, K6), then frames: candidates with their flow levels (K2).
 #![tactic(auto)]
 
-ghost use Rattle.std.specs.Prelude.{◌≡◌};
-ghost use Rattle.stacks.specs.Most.{at_most};
-
 pub mod frame;
 pub mod indent;
 
@@ -15,13 +12,3 @@ const FRAME_WORDS: usize = 6;
 
 // All entries, and the frames of the levels 0 to 255.
 pub const STACK_WORDS: usize = ENTRIES + 256 * FRAME_WORDS;
-
-// A number above the most counts as the most.
-pub fn at_most(most: u32, n: u32) -> u32
-    ensures { result ≡ at_most most n }
-{
-    if most < n {
-        return most;
-    }
-    n
-}

@@ -1,6 +1,7 @@
 -- K2 on the frames: what the code's rules of the candidate make of the lent words, and what the definition sees of it.
-use Rattle.std.specs.Prelude.{ℕ, Bool, ◌&&◌, false, not, List, ◌≡◌, ltb}
+use Rattle.std.specs.Prelude.{ℕ, Bool, ◌&&◌, false, not, List, ◌≡◌, Result, Ok, Err, ltb, ⊤}
 use Rattle.yaml_text.specs.declared.Mark.{Mark}
+use Rattle.yaml_text.specs.declared.Refusal.{Refusal}
 use Rattle.yaml_text.specs.Pick.{pick}
 use Rattle.yaml_text.specs.Refusal.{Read, got, refused}
 use Rattle.yaml_scan.specs.declared.Candidate.{Candidate}
@@ -10,8 +11,6 @@ use Rattle.yaml_scan.specs.State.{lapse_key, remove_key, save_key}
 use Rattle.yaml_scan.specs.State as definition
 use Rattle.stacks.specs.Frame.{SetsKey, key_of, put_key}
 use Rattle.stacks.specs.Indent.{EntriesStay}
-use Rattle.states.specs.declared.Lapsed.{Lapsed}
-use Rattle.states.specs.declared.Lapsed.TheVariants as lapsed
 use Rattle.states.specs.declared.State.{State}
 use Rattle.states.specs.State.{required_of, state_of}
 
@@ -46,12 +45,12 @@ pub record Removes (a e : List ℕ) (s : State) : Type 0 where
   pub sets : SetsKey a e s.flow_level Absent
 
 -- what the definition sees of the check
-unfoldable pub lapsed_seen : List ℕ → List ℕ → ℕ → State → Lapsed → Read definition.State
-lapsed_seen text e count s lapsed.Passed = got (state_of text e count s)
-lapsed_seen text e count s (lapsed.Refused f) = refused f.number f.mark
+unfoldable pub lapsed_seen : List ℕ → List ℕ → ℕ → State → Result ⊤ Refusal → Read definition.State
+lapsed_seen text e count s (Ok passed) = got (state_of text e count s)
+lapsed_seen text e count s (Err f) = refused f.number f.mark
 
 -- the candidate lapses, from the words a to e, if it is to; or it is refused, and they stay
-pub record Lapses (a e : List ℕ) (s : State) (r : Lapsed) : Type 0 where
+pub record Lapses (a e : List ℕ) (s : State) (r : Result ⊤ Refusal) : Type 0 where
   pub words : e ≡ lapsed_words a s
   pub same : (text : List ℕ) (count : ℕ) → lapsed_seen text e count s r ≡ lapse_key (state_of text a count s)
   pub entries : EntriesStay a e

@@ -1,5 +1,5 @@
 -- A fetcher's answer by what a reader read of the rest of the text, with the unused end of the bytes lent to it.
-use Rattle.std.specs.Prelude.{◌+◌, ◌-◌, ◌<◌, ◌≤◌, ◌^◌, suc, ℕ, Bool, List, [], ◌++◌, ◌∷◌, ltb, drop, length, replicate, take}
+use Rattle.std.specs.Prelude.{◌+◌, ◌-◌, ◌<◌, ◌≤◌, ◌^◌, suc, ℕ, Bool, Result, Ok, Err, List, [], ◌++◌, ◌∷◌, ltb, drop, length, replicate, take}
 use Rattle.std.proofs.Common.{append-nil, ◌∙◌, arith, drop_of_length-le, length-drop, take_all, ltb-false, ltb-true}
 use Rattle.std.proofs.Math.Path.{◌≡◌, ap, sym}
 use Rattle.std.proofs.lemmas.List.Edits.{sets}
@@ -17,8 +17,6 @@ use Rattle.chars.specs.declared.mark.Place.{Place}
 use Rattle.chars.specs.View.{view}
 use Rattle.rooms.specs.Room.{cleared, rest_whole, sets_at, sets_past}
 use Rattle.reading.specs.declared.Lexeme.{Lexeme}
-use Rattle.reading.specs.declared.Reading.{Reading}
-use Rattle.reading.specs.declared.Reading.TheVariants.{Got, Refused}
 use Rattle.reading.specs.Reading.{ReadsAhead, Lexes, Seen, bytes_after, laid_read, seen}
 use Rattle.stacks.specs.declared.indent.Indents.{Indents}
 use Rattle.stacks.specs.Frame.{frame_keys, frame_levels}
@@ -121,14 +119,14 @@ pub record KeepsIndents (room : ℕ) (s : State) (w : Way) : Type 0 where
 
 -- the reader's answer and the definition's are alike
 module _ {rest before after : List ℕ} {used : ℕ} where
-  lexeme_same : {l : Lexeme} {x : tokens.Lexeme} → Lexes rest before after used (Got l) (got x) → (l.token ≡ laid_token used x.token) × (view rest l.next ≡ x.place)
+  lexeme_same : {l : Lexeme} {x : tokens.Lexeme} → Lexes rest before after used (Ok l) (got x) → (l.token ≡ laid_token used x.token) × (view rest l.next ≡ x.place)
   unfolding seen laid_read
   lexeme_same {l} {x} h =
       let e : ◌≡◌ {A = Seen} (record { token = l.token; place = view rest l.next }) (record { token = laid_token used x.token; place = x.place }) = cc h.same in
       (ap (λ (y : Seen). y.token) e, ap (λ (y : Seen). y.place) e)
 
 -- the place behind it wraps nowhere
-pub lexed_fits : {limits : Limits} {text a : List ℕ} {s : State} {l : Lexeme} {r : Reading} → Ready limits text a s → r ≡ Got l → ReadsAhead (rest_at text s.place) r
+pub lexed_fits : {limits : Limits} {text a : List ℕ} {s : State} {l : Lexeme} {r : Result Lexeme Refusal} → Ready limits text a s → r ≡ Ok l → ReadsAhead (rest_at text s.place) r
     → length text < 2 ^ 63 → (s.place.at + l.next.at < 2 ^ 63) × (l.next.mark.index < 2 ^ 31)
 lexed_fits {text = text} {s = s} y e h n =
     let k = rw e at h in
@@ -137,9 +135,9 @@ lexed_fits {text = text} {s = s} y e h n =
 -- of the whole text, from the words a to e, which are to be u; the definition's answer is d, which goes by its reader's answer x
 module _ {limits : Limits} {text rest a e u lent : List ℕ} (before : List ℕ) {from : ℕ} {n : Counts} {s : State} {d : Read News}
     (at : from ≡ clipped n.used (length before)) where
-  pub lexed_refused : {f : Refusal} (x : Read tokens.Lexeme) (k : tokens.Lexeme → Read News) → Lexes rest (part from before) lent n.used (Refused f) x
+  pub lexed_refused : {f : Refusal} (x : Read tokens.Lexeme) (k : tokens.Lexeme → Read News) → Lexes rest (part from before) lent n.used (Err f) x
       → d ≡ (x >>= k) → e ≡ a
-      → FetchesText limits text a e u before (cleared before n.used) (back from before lent) n s d (fetched.Refused f)
+      → FetchesText limits text a e u before (cleared before n.used) (back from before lent) n s d (Err f)
   unfolding seen laid_read bytes_after ◌>>=◌
   lexed_refused {f} (refused i m) k h tells q =
       let y : i ≡ f.number = cc h.same in
@@ -152,10 +150,10 @@ module _ {limits : Limits} {text rest a e u lent : List ℕ} (before : List ℕ)
   lexed_refused (got x) k h tells q = let z : ◌≡◌ {A = ℕ} 0 1 = cc h.same in absurd (omega arith)
 
   pub lexed_got : {l : Lexeme} (w : Way) (x : Read tokens.Lexeme) → Ready limits text a s → rest ≡ drop s.place.at text → KeepsIndents limits.entries s w
-      → Lexes rest (part from before) lent n.used (Got l) x
+      → Lexes rest (part from before) lent n.used (Ok l) x
       → d ≡ (x >>= λ (l : tokens.Lexeme). emit (closed_events w.ended l.token) (state_to e n.count s w l.place)) → e ≡ u
       → FetchesText limits text a e u before (cleared before n.used) (back from before lent) n s d
-      (fetched.Goes (closing_of w.ended l.token) (goes_to s w (behind_of s.place l.next)))
+      (Ok (fetched.Goes (closing_of w.ended l.token) (goes_to s w (behind_of s.place l.next))))
   unfolding seen laid_read bytes_after ◌>>=◌
   lexed_got {l} w (got x) y r k h tells q =
       let same = lexeme_same h in

@@ -3,16 +3,17 @@
 
 ghost use Rattle.std.specs.Prelude.{◌≡◌, ◌+◌, ◌^◌, ◌<◌, ◌≤◌, length};
 ghost use Rattle.yaml_scan.specs.Keys.{stale};
-ghost use Rattle.stacks.specs.Stack.{entry_words, stack_words};
+ghost use Rattle.stacks.specs.Stack.{entry_words};
 ghost use Rattle.events.specs.Event.{closing_of};
 ghost use Rattle.states.specs.State.{behind_of, required_of, s_adjacent_here, s_begin, s_moved, s_with_indents, s_with_level};
 ghost use Rattle.states.specs.Key.{Lapses, Removes, Saves};
-ghost use Rattle.states.specs.declared.Brief.TheVariants as brief;
 ghost use Rattle.states.specs.declared.Fetched.TheVariants as fetched;
 
 use chars::mark::Place;
+use chars::refuse::refuse;
 use events::{Event, closing};
 use reading::Lexeme;
+use stacks::STACK_WORDS;
 use stacks::frame::{clear_key, key, set_key};
 use stacks::indent::{Indents, top_ends};
 use yaml_lexeme::Token;
@@ -32,16 +33,15 @@ pub struct State {
     pub simple_key_allowed: bool,
 }
 
-// What was said, with the state behind it; the same at the end of the text; or a refusal.
+// What was said, with the state behind it; or the same at the end of the text.
 #[derive(Clone, Copy)]
 pub enum Fetched {
     Goes(Event, State),
     Ends(Event),
-    Refused(Refusal),
 }
 
 // What says one token, and the state behind it: a token behind the end of an implicit pair or not; '-' behind the start of
-// its block or not. Or a refusal.
+// its block or not.
 #[derive(Clone, Copy)]
 pub enum Brief {
     Goes {
@@ -54,32 +54,6 @@ pub enum Brief {
         starts: bool,
         token: Token,
     },
-    Refused(Refusal),
-}
-
-// The check of the candidate before a token: passed, or a refusal (41).
-#[derive(Clone, Copy)]
-pub enum Lapsed {
-    Passed,
-    Refused(Refusal),
-}
-
-pub fn refuse(number: u32, mark: Mark) -> Fetched
-    ensures { result ≡ fetched.Refused (record { number = number; mark = mark }) }
-{
-    Fetched::Refused(Refusal {
-        number: number,
-        mark: mark,
-    })
-}
-
-pub fn refuse_brief(number: u32, mark: Mark) -> Brief
-    ensures { result ≡ brief.Refused (record { number = number; mark = mark }) }
-{
-    Brief::Refused(Refusal {
-        number: number,
-        mark: mark,
-    })
 }
 
 impl State {
@@ -160,7 +134,7 @@ impl State {
     }
 
     // Whether a candidate here is required: at the block's own column, at level 0.
-    fn requires_key(self, stacks: &[u32]) -> bool
+    fn requires_key(self, stacks: &[u32; STACK_WORDS]) -> bool
         requires { (self.place.mark.col ≤ 1_048_576) × (self.indents.depth ≤ length stacks.now) }
         ensures { result ≡ required_of stacks.now self }
     {
@@ -174,8 +148,8 @@ impl State {
     }
 
     // K2: the candidate of this level, which would be the token of that number.
-    pub fn save_key(self, count: u32, stacks: &mut [u32])
-        requires { (self.flow_level ≤ 255) × (self.indents.depth ≤ entry_words) × (stack_words ≤ length stacks.old) × (self.place.mark.col ≤ 1_048_576) }
+    pub fn save_key(self, count: u32, stacks: &mut [u32; STACK_WORDS])
+        requires { (self.flow_level ≤ 255) × (self.indents.depth ≤ entry_words) × (self.place.mark.col ≤ 1_048_576) }
         ensures { Saves stacks.old stacks.new count self }
     {
         if self.simple_key_allowed {
@@ -199,20 +173,20 @@ impl State {
     }
 
     // K2: this level's candidate goes.
-    pub fn remove_key(self, stacks: &mut [u32])
-        requires { (self.flow_level ≤ 255) × (self.indents.depth ≤ entry_words) × (stack_words ≤ length stacks.old) }
+    pub fn remove_key(self, stacks: &mut [u32; STACK_WORDS])
+        requires { (self.flow_level ≤ 255) × (self.indents.depth ≤ entry_words) }
         ensures { Removes stacks.old stacks.new self }
     {
         clear_key(stacks, self.flow_level);
     }
 
     // K2: the check before each token; in flow no candidate lapses. 41: a required one does.
-    pub fn lapse_key(self, stacks: &mut [u32]) -> Lapsed
-        requires { (self.flow_level ≤ 255) × (self.indents.depth ≤ entry_words) × (stack_words ≤ length stacks.old) }
+    pub fn lapse_key(self, stacks: &mut [u32; STACK_WORDS]) -> Result<(), Refusal>
+        requires { (self.flow_level ≤ 255) × (self.indents.depth ≤ entry_words) }
         ensures { Lapses stacks.old stacks.new self result }
     {
         if 0 < self.flow_level {
-            return Lapsed::Passed;
+            return Ok(());
         }
         let k = key(stacks, self.flow_level);
         let Candidate::Possible {
@@ -221,20 +195,16 @@ impl State {
             mark,
         } = k
         else {
-            return Lapsed::Passed;
+            return Ok(());
         };
         if self.is_stale(mark) {
             if required {
-                let here = self.place.mark;
-                return Lapsed::Refused(Refusal {
-                    number: 41,
-                    mark: here,
-                });
+                return refuse(41, self.place.mark);
             }
             self.remove_key(stacks);
-            return Lapsed::Passed;
+            return Ok(());
         }
-        Lapsed::Passed
+        Ok(())
     }
 }
 
