@@ -1,5 +1,5 @@
 -- What the loop over steps promises, for every state that may be held and whatever it is lent.
-use Rattle.std.specs.Prelude.{◌≤◌, suc, ℕ, Bool, List, ◌++◌, ◌≡◌, drop, length, take}
+use Rattle.std.specs.Prelude.{◌≤◌, suc, ℕ, Bool, List, ◌++◌, ◌≡◌, drop, length, take, Result, Ok, Err}
 use Rattle.yaml_text.specs.declared.Refusal.{Refusal}
 use Rattle.yaml_text.specs.PlaceLaws.{left}
 use Rattle.yaml_scan.specs.declared.Limits.{Limits}
@@ -14,7 +14,7 @@ use Rattle.states.specs.declared.State.{State}
 use Rattle.states.specs.State.{state_of}
 use Rattle.storing.specs.Step.{StepGiven}
 use Rattle.driver.specs.declared.Outcome.{Outcome}
-use Rattle.driver.specs.declared.Outcome.TheVariants.{Ready, Scanned, Stopped}
+use Rattle.driver.specs.declared.Outcome.TheVariants.{Ready, Scanned}
 use Rattle.stream_laws.specs.declared.Pending.{Pending}
 use Rattle.stream_laws.specs.Driven.{Driven, Test, driven, ends, pauses, stops, test_of}
 use Rattle.driver.specs.Held.{base_at, counts_held, pending_held, place_held, put_counts, put_pending, put_state, put_until, seen_held, word}
@@ -68,9 +68,9 @@ pub record PausesAs (limits : Limits) (text : List ℕ) (d : Driven) (base : ℕ
   pub low : pending.level ≤ 255
   pub held : h' ≡ put_pending (put_counts (put_state (stacks ++ drop stack_words h) state) counts) base pending
 
-abbrev pub Drives : Limits → Bool → List ℕ → List ℕ → List ℕ → List ℕ → List ℕ → List ℕ → List ℕ → Outcome → Type 0
-Drives limits one text h l b h' l' b' (Scanned m) =
+abbrev pub Drives : Limits → Bool → List ℕ → List ℕ → List ℕ → List ℕ → List ℕ → List ℕ → List ℕ → Result Outcome Refusal → Type 0
+Drives limits one text h l b h' l' b' (Ok (Scanned m)) =
     EndsAs (drives limits one text (length b) h) (base_held text h) (counts_held text h) m l b l' b' × (drop stack_words h' ≡ drop stack_words h) × (length h' ≡ length h)
-Drives limits one text h l b h' l' b' (Stopped f) = StopsAs (drives limits one text (length b) h) (base_held text h) (counts_held text h) f h l b h' l' b'
-Drives limits one text h l b h' l' b' Ready =
+Drives limits one text h l b h' l' b' (Ok Ready) =
     PausesAs limits text (drives limits one text (length b) h) (base_held text h) (counts_held text h) h l b h' l' b'
+Drives limits one text h l b h' l' b' (Err f) = StopsAs (drives limits one text (length b) h) (base_held text h) (counts_held text h) f h l b h' l' b'

@@ -23,7 +23,7 @@ ghost use Rattle.driver.specs.Drives.{Drives};
 ghost use Rattle.driver.specs.Held.{Modest, held_words, pending_held, put_counts, put_pending, put_state, put_until};
 ghost use Rattle.driver.specs.Step.{StepDone, token_news};
 
-use crate::held::{BASE, LEVEL, STACKS, UNTIL, load_counts, load_state, store_counts, store_state};
+use crate::held::{BASE, HELD_WORDS, LEVEL, STACKS, UNTIL, load_counts, load_state, store_counts, store_state};
 use choices::advance::{Advanced, to_next_token};
 use choices::choice::choice;
 use events::{Counts, Opening, brief_event};
@@ -42,7 +42,6 @@ use yaml_text::{Mark, Refusal};
 pub enum Outcome {
     // StreamEnd was scanned.
     Scanned(Counts),
-    Stopped(Refusal),
     // Enough tokens can be given; the state is held.
     Ready,
 }
@@ -394,11 +393,11 @@ pub fn all_steps(
     limits: Limits,
     text: &[u8],
     single: bool,
-    held: &mut [u32],
+    held: &mut [u32; HELD_WORDS],
     words: &mut [u32],
     bytes: &mut [u8],
-) -> Outcome
-    requires { Modest limits × (length text.now ≤ 1_048_576) × (length held.old ≡ held_words) }
+) -> Result<Outcome, Refusal>
+    requires { Modest limits × (length text.now ≤ 1_048_576) }
     ensures { Drives limits single text.now held.old words.old bytes.old held.new words.new bytes.new result }
 {
     let mut t = load_state(limits, held, text);
@@ -411,10 +410,10 @@ pub fn all_steps(
         match r {
             Stepped::Refused(f) => {
                 hold_until(held, base, w);
-                return Outcome::Stopped(f);
+                return Err(f);
             }
             Stepped::Ends(m) => {
-                return Outcome::Scanned(m);
+                return Ok(Outcome::Scanned(m));
             }
             Stepped::On { state, counts } => {
                 t = state.anew();
@@ -425,11 +424,11 @@ pub fn all_steps(
         match b {
             Behind::Refused(f) => {
                 hold_until(held, base, w);
-                return Outcome::Stopped(f);
+                return Err(f);
             }
             Behind::Ready(v) => {
                 hold(held, t, k, base, v);
-                return Outcome::Ready;
+                return Ok(Outcome::Ready);
             }
             Behind::More(v) => {
                 w = v;

@@ -1,5 +1,5 @@
 -- The entry's answer, held against the definition's.
-use Rattle.std.specs.Prelude.{◌*◌, ◌/◌, ◌<◌, ◌^◌, ◌≤◌, ℕ, false, true, List, ◌≡◌, ltb, length}
+use Rattle.std.specs.Prelude.{◌*◌, ◌/◌, ◌<◌, ◌^◌, ◌≤◌, ℕ, false, true, List, ◌≡◌, ltb, length, Result, Ok, Err}
 use Rattle.std.proofs.Common.{arith}
 use Rattle.yaml_text.specs.Mark.{origin}
 use Rattle.yaml_lexeme.specs.Record.{record_words}
@@ -12,20 +12,20 @@ use Rattle.events.specs.declared.Counts.{Counts}
 use Rattle.sink.specs.Settle.{front, settled_words, total_records}
 use Rattle.sink.specs.Stored.{tokens_counted}
 use Rattle.driver.specs.Held.{Modest}
-use Rattle.scanner.specs.declared.Answer.{Answer}
-use Rattle.scanner.specs.declared.Answer.TheVariants.{Accepted, Refused}
+use Rattle.scanner.specs.declared.Refused.{Refused}
+use Rattle.scanner.specs.declared.Sizes.{Sizes}
 
 -- 01's numbers of an answer
-abbrev pub verdict_of : Answer → Verdict
-verdict_of (Accepted t d) = accepted t d
-verdict_of (Refused f t d) = refusal f.number f.mark t d
+abbrev pub verdict_of : Result Sizes Refused → Verdict
+verdict_of (Ok n) = accepted n.tokens n.bytes
+verdict_of (Err r) = refusal r.refusal.number r.refusal.mark r.sizes.tokens r.sizes.bytes
 
 -- an answer, with what both rooms hold then
-abbrev pub answer_of : Answer → List ℕ → List ℕ → definition.Answer
+abbrev pub answer_of : Result Sizes Refused → List ℕ → List ℕ → definition.Answer
 answer_of r words bytes = record { verdict = verdict_of r; words = words; bytes = bytes }
 
 -- what the entry promises of a text and rooms with these contents: its answer and what both rooms hold then are the definition's
-abbrev pub Answers : Limits → List ℕ → List ℕ → List ℕ → List ℕ → List ℕ → Answer → Type 0
+abbrev pub Answers : Limits → List ℕ → List ℕ → List ℕ → List ℕ → List ℕ → Result Sizes Refused → Type 0
 Answers limits text words₀ bytes₀ words bytes r = answer_of r words bytes ≡ answer limits text (length words₀) (length bytes₀)
 
 -- a limit above 01's counts as 01's

@@ -1,5 +1,5 @@
 -- What a run stores and counts, held against the definition.
-use Rattle.std.specs.Prelude.{ℕ, List, ◌≡◌, length}
+use Rattle.std.specs.Prelude.{ℕ, List, ◌≡◌, length, Result, Ok, Err}
 use Rattle.yaml_text.specs.declared.Refusal.{Refusal}
 use Rattle.yaml_scan.specs.State.{Event}
 use Rattle.yaml_scan.specs.Scan.{scanned, stopped}
@@ -7,7 +7,7 @@ use Rattle.yaml_scan.specs.Scan as definition
 use Rattle.events.specs.declared.Counts.{Counts}
 use Rattle.sink.specs.Stored.{CountsWithin, Stored}
 use Rattle.driver.specs.declared.Outcome.{Outcome}
-use Rattle.driver.specs.declared.Outcome.TheVariants.{Ready, Scanned, Stopped}
+use Rattle.driver.specs.declared.Outcome.TheVariants.{Ready, Scanned}
 
 -- a run whose outcome is d: all that was said is stored and counted
 pub record RunScans (d : definition.Outcome) (n m : Counts) (l b l' b' : List ℕ) : Type 0 where
@@ -23,7 +23,7 @@ pub record RunStops (d : definition.Outcome) (l b l' b' : List ℕ) (f : Refusal
   pub bytes : length b' ≡ length b
 
 -- nothing is asked behind a step, so that the run never pauses
-abbrev pub RunComes : definition.Outcome → Counts → List ℕ → List ℕ → List ℕ → List ℕ → Outcome → Type 0
-RunComes d n l b l' b' (Scanned m) = RunScans d n m l b l' b'
-RunComes d n l b l' b' (Stopped f) = RunStops d l b l' b' f
-RunComes d n l b l' b' Ready = ⊥
+abbrev pub RunComes : definition.Outcome → Counts → List ℕ → List ℕ → List ℕ → List ℕ → Result Outcome Refusal → Type 0
+RunComes d n l b l' b' (Ok (Scanned m)) = RunScans d n m l b l' b'
+RunComes d n l b l' b' (Ok Ready) = ⊥
+RunComes d n l b l' b' (Err f) = RunStops d l b l' b' f

@@ -22,13 +22,24 @@ use validity::{Checked, check_text};
 use yaml_scan::Limits;
 use yaml_text::{Mark, Refusal};
 
+// T, the tokens, and D, the bytes of their texts.
 #[derive(Clone, Copy)]
-pub enum Answer {
-    // T and D.
-    Accepted(u32, u32),
-    // The refusal, T and D.
-    Refused(Refusal, u32, u32),
+pub struct Sizes {
+    pub tokens: u32,
+    pub bytes: u32,
 }
+
+// A refusal says T and D too: 4 and 5 tell what room the text needs, and with every other refusal both are 0.
+#[derive(Clone, Copy)]
+pub struct Refused {
+    pub refusal: Refusal,
+    pub sizes: Sizes,
+}
+
+const NONE: Sizes = Sizes {
+    tokens: 0,
+    bytes: 0,
+};
 
 // A refusal that has no place in the text.
 fn outside(number: u32) -> Refusal
@@ -46,59 +57,78 @@ fn outside(number: u32) -> Refusal
 }
 
 // 1; then 2 or 3; then the run.
-fn outcome(limits: Limits, text: &[u8], words: &mut [u32], bytes: &mut [u8]) -> Outcome
+fn outcome(
+    limits: Limits,
+    text: &[u8],
+    words: &mut [u32],
+    bytes: &mut [u8],
+) -> Result<Outcome, Refusal>
     requires { Modest limits }
     ensures { RunComes (outcome limits text.now) no_counts words.old bytes.old words.new bytes.new result }
 {
     if limits.bytes < text.len() {
-        return Outcome::Stopped(outside(1));
+        return Err(outside(1));
     }
     let c = check_text(text);
     if let Checked::Refused(f) = c {
-        return Outcome::Stopped(f);
+        return Err(f);
     }
     run(limits, text, words, bytes)
 }
 
 // A refusal leaves both rooms all zero.
-fn refused(f: Refusal, t: u32, d: u32, words: &mut [u32], bytes: &mut [u8]) -> Answer
-    ensures { answer_of result words.new bytes.new ≡ blank_answer (refusal f.number f.mark t d) (length words.old) (length bytes.old) }
+fn clears(
+    f: Refusal,
+    sizes: Sizes,
+    words: &mut [u32],
+    bytes: &mut [u8],
+) -> Result<Sizes, Refused>
+    ensures { answer_of result words.new bytes.new ≡ blank_answer (refusal f.number f.mark sizes.tokens sizes.bytes) (length words.old) (length bytes.old) }
 {
     clear_words_from(words, 0);
     clear_from(bytes, 0);
-    Answer::Refused(f, t, d)
+    Err(Refused { refusal: f, sizes })
 }
 
 // 4: T exceeds the whole records that fit; 5: D exceeds the bytes.
-fn lent(n: Counts, words: &mut [u32], bytes: &mut [u8]) -> Answer
+fn lent(n: Counts, words: &mut [u32], bytes: &mut [u8]) -> Result<Sizes, Refused>
     requires { Settles n words.old }
     ensures { answer_of result words.new bytes.new ≡ lent_of n words.old bytes.old }
 {
-    let t = n.count + n.put_in;
-    let d = n.used;
-    if words.len() / RECORD_WORDS < t as usize {
-        return refused(outside(4), t, d, words, bytes);
+    let sizes = Sizes {
+        tokens: n.count + n.put_in,
+        bytes: n.used,
+    };
+    let t = sizes.tokens as usize;
+    let d = sizes.bytes as usize;
+    if words.len() / RECORD_WORDS < t {
+        return clears(outside(4), sizes, words, bytes);
     }
-    if bytes.len() < d as usize {
-        return refused(outside(5), t, d, words, bytes);
+    if bytes.len() < d {
+        return clears(outside(5), sizes, words, bytes);
     }
-    settle(words, n.count, t);
-    clear_words_from(words, t as usize * RECORD_WORDS);
-    clear_from(bytes, d as usize);
-    Answer::Accepted(t, d)
+    settle(words, n.count, sizes.tokens);
+    clear_words_from(words, t * RECORD_WORDS);
+    clear_from(bytes, d);
+    Ok(sizes)
 }
 
 // Within limits that are at most 01's.
-fn scan_within(limits: Limits, text: &[u8], words: &mut [u32], bytes: &mut [u8]) -> Answer
+fn scan_within(
+    limits: Limits,
+    text: &[u8],
+    words: &mut [u32],
+    bytes: &mut [u8],
+) -> Result<Sizes, Refused>
     requires { Modest limits }
     ensures { Answers limits text.now words.old bytes.old words.new bytes.new result }
 {
     let o = outcome(limits, text, words, bytes);
     match o {
-        Outcome::Stopped(f) => refused(f, 0, 0, words, bytes),
-        Outcome::Scanned(n) => lent(n, words, bytes),
+        Ok(Outcome::Scanned(n)) => lent(n, words, bytes),
         // Tokens are not given one at a time: it does not come.
-        Outcome::Ready => refused(outside(0), 0, 0, words, bytes),
+        Ok(Outcome::Ready) => clears(outside(0), NONE, words, bytes),
+        Err(f) => clears(f, NONE, words, bytes),
     }
 }
 
@@ -124,14 +154,19 @@ fn capped(limits: Limits) -> Limits
 }
 
 // Tokens and decoded text of a text, in lent words and bytes, within these limits and 01's.
-pub fn scan_with(limits: Limits, text: &[u8], words: &mut [u32], bytes: &mut [u8]) -> Answer
+pub fn scan_with(
+    limits: Limits,
+    text: &[u8],
+    words: &mut [u32],
+    bytes: &mut [u8],
+) -> Result<Sizes, Refused>
     ensures { Answers (capped limits) text.now words.old bytes.old words.new bytes.new result }
 {
     scan_within(capped(limits), text, words, bytes)
 }
 
 // The same within 01's limits.
-pub fn scan(text: &[u8], words: &mut [u32], bytes: &mut [u8]) -> Answer
+pub fn scan(text: &[u8], words: &mut [u32], bytes: &mut [u8]) -> Result<Sizes, Refused>
     ensures { Answers standard text.now words.old bytes.old words.new bytes.new result }
 {
     scan_within(standard(), text, words, bytes)

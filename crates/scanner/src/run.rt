@@ -13,9 +13,15 @@ use sink::put_record;
 use states::State;
 use yaml_lexeme::{Kind, Token};
 use yaml_scan::Limits;
+use yaml_text::Refusal;
 
 // At a refusal its caller clears the words and the bytes, so that what they hold then is not said, only that their lengths stay.
-pub(crate) fn run(limits: Limits, text: &[u8], words: &mut [u32], bytes: &mut [u8]) -> Outcome
+pub(crate) fn run(
+    limits: Limits,
+    text: &[u8],
+    words: &mut [u32],
+    bytes: &mut [u8],
+) -> Result<Outcome, Refusal>
     requires { Modest limits × (length text.now ≤ 1_048_576) }
     ensures { RunComes (scan limits (chars text.now)) no_counts words.old bytes.old words.new bytes.new result }
 {

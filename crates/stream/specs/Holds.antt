@@ -1,7 +1,8 @@
 -- What stands between two calls in the words that are held (h), the lent words (l) and the lent bytes (b), of a stream of the definition.
 -- `gone` are the texts of the tokens that were given. Steps were made ahead: `gs` are the slots whose tokens the next calls give.
-use Rattle.std.specs.Prelude.{◌*◌, ◌+◌, ◌/◌, ◌<◌, ◌≤◌, ℕ, false, List, [], ◌++◌, ◌≡◌, drop, length, replicate, take}
+use Rattle.std.specs.Prelude.{◌*◌, ◌+◌, ◌/◌, ◌<◌, ◌≤◌, ℕ, false, List, [], ◌++◌, ◌≡◌, drop, length, replicate, take, Result, Ok, Err}
 use Rattle.yaml_text.specs.declared.Mark.{Mark}
+use Rattle.yaml_text.specs.declared.Refusal.{Refusal}
 use Rattle.yaml_lexeme.specs.Record.{record_words}
 use Rattle.yaml_lexeme.specs.Token.{token_bytes}
 use Rattle.yaml_scan.specs.declared.Limits.{Limits}
@@ -74,10 +75,10 @@ pub data Holds (limits : Limits) (text h l b : List ℕ) : List ℕ → Stream �
       → Breaks h l b gone gs k m → Holds limits text h l b gone x
 
 -- the answer of a call, and the record of its token: all zero where none was given. Its texts stand behind those of the tokens given before
-abbrev pub Says : ℕ → stream.Next → List ℕ → Next → Type 0
-Says used (token t) r a = (a ≡ next.Token) × (r ≡ laid_record used t)
-Says used ended r a = (a ≡ next.Ended) × (r ≡ replicate record_words 0)
-Says used (refusal k m) r a = (a ≡ next.Refused (record { number = k; mark = m })) × (r ≡ replicate record_words 0)
+abbrev pub Says : ℕ → stream.Next → List ℕ → Result Next Refusal → Type 0
+Says used (token t) r a = (a ≡ Ok next.Token) × (r ≡ laid_record used t)
+Says used ended r a = (a ≡ Ok next.Ended) × (r ≡ replicate record_words 0)
+Says used (refusal k m) r a = (a ≡ Err (record { number = k; mark = m })) × (r ≡ replicate record_words 0)
 Says used spent r a = ⊥
 
 abbrev pub text_given : stream.Next → List ℕ
@@ -87,10 +88,10 @@ text_given (refusal k m) = []
 text_given spent = []
 
 -- a call: of every stream that is held, the definition's answer, and the stream behind it is held then
-pub record Calls (limits : Limits) (text b h' l' b' r : List ℕ) (a : Next) (gone : List ℕ) (x : Stream) : Type 0 where
+pub record Calls (limits : Limits) (text b h' l' b' r : List ℕ) (a : Result Next Refusal) (gone : List ℕ) (x : Stream) : Type 0 where
   pub says : Says (length gone) (call limits (length b) x).answer r a
   pub holds : Holds limits text h' l' b' (gone ++ text_given (call limits (length b) x).answer) (call limits (length b) x).stream
 
 -- of every stream that is held; no caller is asked for anything, so a call with other words than those of the call before promises nothing
-abbrev pub Promises : Limits → List ℕ → List ℕ → List ℕ → List ℕ → List ℕ → List ℕ → List ℕ → List ℕ → Next → Type 0
+abbrev pub Promises : Limits → List ℕ → List ℕ → List ℕ → List ℕ → List ℕ → List ℕ → List ℕ → List ℕ → Result Next Refusal → Type 0
 Promises limits text h l b h' l' b' r a = (gone : List ℕ) (x : Stream) → Holds limits text h l b gone x → Calls limits text b h' l' b' r a gone x

@@ -1,7 +1,7 @@
 -- Calls one after the other, from a fresh state (a state of zeros): the records given are those of the definition's tokens, their texts
 -- stand in front of the bytes, and the next answer is the definition's. So what yaml_stream proves of calls holds of what the code gives: behind
 -- "ended" the records are those of 01's whole list, a refusal is the broken rule's or has its reason, and either comes for ever.
-use Rattle.std.specs.Prelude.{◌+◌, ◌≤◌, ℕ, List, [], ◌++◌, ◌∷◌, ◌⊎◌, ◌≡◌, refl, get_or, length, replicate, take}
+use Rattle.std.specs.Prelude.{◌+◌, ◌≤◌, ℕ, List, [], ◌++◌, ◌∷◌, ◌⊎◌, ◌≡◌, refl, get_or, length, replicate, take, Result, Ok, Err}
 use Rattle.std.proofs.Common.{append_assoc, append-nil, inl, inr, ◌∙◌, ap, subst, sym, arith, length-append, take_at, take-take}
 use Rattle.yaml_text.specs.declared.Mark.{Mark}
 use Rattle.yaml_text.specs.declared.Refusal.{Refusal}
@@ -31,7 +31,7 @@ use Rattle.stream.specs.Holds.{Holds, Promises, Says, Waits, breaks, closes, fre
 pub data Run (limits : Limits) (text h l b : List ℕ) : List ℕ → List ℕ → List ℕ → List ℕ → Type 0 where
   none : Run limits text h l b [] h l b
   more : {rs h₁ l₁ b₁ h₂ l₂ b₂ r : List ℕ} → Run limits text h l b rs h₁ l₁ b₁ → length l₂ ≡ length l₁ → length b₂ ≡ length b₁
-      → Promises limits text h₁ l₁ b₁ h₂ l₂ b₂ r next.Token → Run limits text h l b (rs ++ r) h₂ l₂ b₂
+      → Promises limits text h₁ l₁ b₁ h₂ l₂ b₂ r (Ok next.Token) → Run limits text h l b (rs ++ r) h₂ l₂ b₂
 
 -- the definition's calls to the tokens ts; y is the stream behind them
 pub record Gave (limits : Limits) (text l b rs h' l' b' : List ℕ) : Type 0 where
@@ -63,7 +63,7 @@ record Told (used : ℕ) (n : stream.Next) (r : List ℕ) : Type 0 where
   is : n ≡ token given
   words : r ≡ laid_record used given
 
-told : (used : ℕ) (n : stream.Next) (r : List ℕ) → Says used n r next.Token → Told used n r
+told : (used : ℕ) (n : stream.Next) (r : List ℕ) → Says used n r (Ok next.Token) → Told used n r
 told used (token t) r s = record { given = t; is = refl; words = s.1 }
 told used ended r s = let z : ◌≡◌ {A = ℕ} 0 1 = cc in absurd (omega arith)
 told used (refusal k m) r s = let z : ◌≡◌ {A = ℕ} 0 1 = cc in absurd (omega arith)
@@ -81,7 +81,7 @@ unfolding texts
 texts_more ts t = texts_append ts (t ∷ []) ∙ ap (λ (z : List ℕ). texts ts ++ z) (append-nil (token_bytes t))
 
 gave_more : {limits : Limits} {text l b rs h₁ l₁ b₁ h₂ l₂ b₂ r : List ℕ} → Gave limits text l b rs h₁ l₁ b₁ → length l₂ ≡ length l₁ → length b₂ ≡ length b₁
-    → Promises limits text h₁ l₁ b₁ h₂ l₂ b₂ r next.Token → Gave limits text l b (rs ++ r) h₂ l₂ b₂
+    → Promises limits text h₁ l₁ b₁ h₂ l₂ b₂ r (Ok next.Token) → Gave limits text l b (rs ++ r) h₂ l₂ b₂
 gave_more {limits} {text} {l} {b} {rs} {h₁} {l₁} {b₁} {h₂} {l₂} {b₂} {r} g e f p =
     let ts = g.tokens in
     let y = g.behind in
@@ -117,20 +117,20 @@ run_gave {limits} {text} {h} {l} {b} e f none =
 run_gave e f (more r i j p) = gave_more (run_gave e f r) i j p
 
 -- the call behind them answers what the definition's does
-pub run_answers : {limits : Limits} {text l b rs h₁ l₁ b₁ h₂ l₂ b₂ r : List ℕ} {a : Next} (g : Gave limits text l b rs h₁ l₁ b₁) → Promises limits text h₁ l₁ b₁ h₂ l₂ b₂ r a
+pub run_answers : {limits : Limits} {text l b rs h₁ l₁ b₁ h₂ l₂ b₂ r : List ℕ} {a : Result Next Refusal} (g : Gave limits text l b rs h₁ l₁ b₁) → Promises limits text h₁ l₁ b₁ h₂ l₂ b₂ r a
     → Says (length (texts g.tokens)) (call limits (length b) g.behind).answer r a
 run_answers {limits} {r = r} {a = a} g p =
     subst (λ (n : ℕ). Says (length (texts g.tokens)) (call limits n g.behind).answer r a) g.same_bytes (p (texts g.tokens) g.behind g.holds).says
 
 -- how they end
 
-says_ended : (used : ℕ) (n : stream.Next) (r : List ℕ) → Says used n r next.Ended → n ≡ ended
+says_ended : (used : ℕ) (n : stream.Next) (r : List ℕ) → Says used n r (Ok next.Ended) → n ≡ ended
 says_ended used (token t) r s = let z : ◌≡◌ {A = ℕ} 0 1 = cc in absurd (omega arith)
 says_ended used ended r s = refl
 says_ended used (refusal k m) r s = let z : ◌≡◌ {A = ℕ} 0 1 = cc in absurd (omega arith)
 says_ended used spent r s = absurd s
 
-says_refused : (used : ℕ) (n : stream.Next) (r : List ℕ) (f : Refusal) → Says used n r (next.Refused f) → n ≡ refusal f.number f.mark
+says_refused : (used : ℕ) (n : stream.Next) (r : List ℕ) (f : Refusal) → Says used n r (Err f) → n ≡ refusal f.number f.mark
 says_refused used (token t) r f s = let z : ◌≡◌ {A = ℕ} 0 1 = cc in absurd (omega arith)
 says_refused used ended r f s = let z : ◌≡◌ {A = ℕ} 0 1 = cc in absurd (omega arith)
 says_refused used (refusal k m) r f s = let e : f ≡ record { number = k; mark = m } = cc in rw e
@@ -153,7 +153,7 @@ behind_run {limits} {text} {l} {b} g e =
     }
 
 -- "ended": 01 accepts the text, and the records given are those of its whole list
-pub run_ended : {limits : Limits} {text l b rs h₁ l₁ b₁ h₂ l₂ b₂ r : List ℕ} (g : Gave limits text l b rs h₁ l₁ b₁) → Promises limits text h₁ l₁ b₁ h₂ l₂ b₂ r next.Ended
+pub run_ended : {limits : Limits} {text l b rs h₁ l₁ b₁ h₂ l₂ b₂ r : List ℕ} (g : Gave limits text l b rs h₁ l₁ b₁) → Promises limits text h₁ l₁ b₁ h₂ l₂ b₂ r (Ok next.Ended)
     → (es : List Event) × (outcome limits text ≡ scanned es) × (rs ≡ records 0 (tokens_of es))
 run_ended {limits} {text} {r = r} g p =
     let ts = g.tokens in
@@ -163,7 +163,7 @@ run_ended {limits} {text} {r = r} g p =
     (es, outcome_told limits text ∙ ap (λ (c : Close). outcome_of es c) v.answered.1, g.words ∙ ap (λ (us : List Token). records 0 us) (sym f))
 
 -- a refusal: 01's, or one of the stream's own with its reason
-pub run_refused : {limits : Limits} {text l b rs h₁ l₁ b₁ h₂ l₂ b₂ r : List ℕ} {f : Refusal} (g : Gave limits text l b rs h₁ l₁ b₁) → Promises limits text h₁ l₁ b₁ h₂ l₂ b₂ r (next.Refused f)
+pub run_refused : {limits : Limits} {text l b rs h₁ l₁ b₁ h₂ l₂ b₂ r : List ℕ} {f : Refusal} (g : Gave limits text l b rs h₁ l₁ b₁) → Promises limits text h₁ l₁ b₁ h₂ l₂ b₂ r (Err f)
     → (outcome limits text ≡ stopped f.number f.mark) ⊎ Own (length l) (length b) (built limits text) f.number f.mark
 run_refused {limits} {text} {l} {b} {r = r} {f = f} g p = by_close (behind_run g (says_refused (length (texts g.tokens)) _ r f (run_answers g p))).answered
   where
@@ -173,13 +173,13 @@ run_refused {limits} {text} {l} {b} {r = r} {f = f} g p = by_close (behind_run g
     by_close (inr o) = inr o
 
 -- what a caller tells the answers apart by: a record begins with its kind's number, which is not 0, and no refusal's number is 0
-pub kind_not_zero : {limits : Limits} {text l b rs h₁ l₁ b₁ h₂ l₂ b₂ r : List ℕ} (g : Gave limits text l b rs h₁ l₁ b₁) → Promises limits text h₁ l₁ b₁ h₂ l₂ b₂ r next.Token → 1 ≤ get_or r 0 0
+pub kind_not_zero : {limits : Limits} {text l b rs h₁ l₁ b₁ h₂ l₂ b₂ r : List ℕ} (g : Gave limits text l b rs h₁ l₁ b₁) → Promises limits text h₁ l₁ b₁ h₂ l₂ b₂ r (Ok next.Token) → 1 ≤ get_or r 0 0
 kind_not_zero {limits} {b = b} {r = r} g p =
     let used = length (texts g.tokens) in
     let v = told used (call limits (length b) g.behind).answer r (run_answers g p) in
     subst (λ (z : List ℕ). 1 ≤ get_or z 0 0) (sym v.words) (record_some (laid_token used v.given))
 
-pub number_not_zero : {limits : Limits} {text l b rs h₁ l₁ b₁ h₂ l₂ b₂ r : List ℕ} {f : Refusal} (g : Gave limits text l b rs h₁ l₁ b₁) → Promises limits text h₁ l₁ b₁ h₂ l₂ b₂ r (next.Refused f)
+pub number_not_zero : {limits : Limits} {text l b rs h₁ l₁ b₁ h₂ l₂ b₂ r : List ℕ} {f : Refusal} (g : Gave limits text l b rs h₁ l₁ b₁) → Promises limits text h₁ l₁ b₁ h₂ l₂ b₂ r (Err f)
     → 1 ≤ f.number
 number_not_zero {limits} {text} {l} {b} {r = r} {f = f} g p =
     at_least_one limits text (length l) (length b) g.comes f.number f.mark
@@ -188,12 +188,12 @@ number_not_zero {limits} {text} {l} {b} {r = r} {f = f} g p =
 -- each later call
 
 -- no token was given: the texts stay
-held_behind : {limits : Limits} {text gone h l b h' l' b' r : List ℕ} {a : Next} {n : stream.Next} {x y : Stream} → Holds limits text h l b gone x → Promises limits text h l b h' l' b' r a
+held_behind : {limits : Limits} {text gone h l b h' l' b' r : List ℕ} {a : Result Next Refusal} {n : stream.Next} {x y : Stream} → Holds limits text h l b gone x → Promises limits text h l b h' l' b' r a
     → (call limits (length b) x).answer ≡ n → text_given n ≡ [] → (call limits (length b) x).stream ≡ y → Holds limits text h' l' b' gone y
 held_behind {gone = gone} {x = x} w p e f i = rw (e, f, i, append-nil gone) at (p gone x w).holds
 
 -- behind "ended" nothing is left
-pub run_closed : {limits : Limits} {text l b rs h₁ l₁ b₁ h₂ l₂ b₂ r : List ℕ} (g : Gave limits text l b rs h₁ l₁ b₁) → Promises limits text h₁ l₁ b₁ h₂ l₂ b₂ r next.Ended
+pub run_closed : {limits : Limits} {text l b rs h₁ l₁ b₁ h₂ l₂ b₂ r : List ℕ} (g : Gave limits text l b rs h₁ l₁ b₁) → Promises limits text h₁ l₁ b₁ h₂ l₂ b₂ r (Ok next.Ended)
     → Holds limits text h₂ l₂ b₂ (texts g.tokens) (closing [])
 run_closed {limits} {b₁ = b₁} {r = r} g p =
     let y = g.behind in
@@ -201,7 +201,7 @@ run_closed {limits} {b₁ = b₁} {r = r} g p =
     held_behind g.holds p e refl (ended_stays limits (length b₁) y e)
 
 -- and behind a refusal it stands
-pub run_broken : {limits : Limits} {text l b rs h₁ l₁ b₁ h₂ l₂ b₂ r : List ℕ} {f : Refusal} (g : Gave limits text l b rs h₁ l₁ b₁) → Promises limits text h₁ l₁ b₁ h₂ l₂ b₂ r (next.Refused f)
+pub run_broken : {limits : Limits} {text l b rs h₁ l₁ b₁ h₂ l₂ b₂ r : List ℕ} {f : Refusal} (g : Gave limits text l b rs h₁ l₁ b₁) → Promises limits text h₁ l₁ b₁ h₂ l₂ b₂ r (Err f)
     → Holds limits text h₂ l₂ b₂ (texts g.tokens) (broken f.number f.mark)
 run_broken {limits} {b₁ = b₁} {r = r} {f = f} g p =
     let y = g.behind in
@@ -209,13 +209,13 @@ run_broken {limits} {b₁ = b₁} {r = r} {f = f} g p =
     held_behind g.holds p e refl (refused_stays limits (length b₁) y f.number f.mark e)
 
 -- the same answer again, and the same is held behind it: so it comes for ever
-pub ended_for_ever : {limits : Limits} {text gone h l b h' l' b' r : List ℕ} {a : Next} → Holds limits text h l b gone (closing []) → Promises limits text h l b h' l' b' r a
+pub ended_for_ever : {limits : Limits} {text gone h l b h' l' b' r : List ℕ} {a : Result Next Refusal} → Holds limits text h l b gone (closing []) → Promises limits text h l b h' l' b' r a
     → Says (length gone) ended r a × Holds limits text h' l' b' gone (closing [])
 ended_for_ever {limits} {gone = gone} {b = b} w p =
     let e = ended_again limits (length b) in
     (rw e at (p gone (closing []) w).says, held_behind w p (ap (λ (c : Called). c.answer) e) refl (ap (λ (c : Called). c.stream) e))
 
-pub refused_for_ever : {limits : Limits} {text gone h l b h' l' b' r : List ℕ} {a : Next} {k : ℕ} {m : Mark} → Holds limits text h l b gone (broken k m) → Promises limits text h l b h' l' b' r a
+pub refused_for_ever : {limits : Limits} {text gone h l b h' l' b' r : List ℕ} {a : Result Next Refusal} {k : ℕ} {m : Mark} → Holds limits text h l b gone (broken k m) → Promises limits text h l b h' l' b' r a
     → Says (length gone) (refusal k m) r a × Holds limits text h' l' b' gone (broken k m)
 refused_for_ever {limits} {gone = gone} {b = b} {k = k} {m = m} w p =
     let e = refused_again limits (length b) k m in

@@ -1,5 +1,5 @@
 -- What the parts of a call do to the words that they are lent.
-use Rattle.std.specs.Prelude.{◌*◌, ◌+◌, ◌-◌, ℕ, Bool, false, true, List, ◌≡◌, eqb, ltb, drop, length, replicate, set, take}
+use Rattle.std.specs.Prelude.{◌*◌, ◌+◌, ◌-◌, ℕ, Bool, false, true, List, ◌≡◌, eqb, ltb, drop, length, replicate, set, take, Result, Ok, Err}
 use Rattle.std.proofs.lemmas.List.Edits.{sets}
 use Rattle.yaml_text.specs.declared.Refusal.{Refusal}
 use Rattle.yaml_text.specs.Pick.{pick}
@@ -87,8 +87,8 @@ pub record MayGive (h l t h' l' t' : List ℕ) (r : Bool) : Type 0 where
   pub stays : r ≡ false → (h' ≡ h) × (l' ≡ l) × (t' ≡ t)
 
 -- what is said where none can
-unfoldable pub last_held : List ℕ → Next
-last_held h = pick (eqb (word h phase_at) 2) next.Ended (next.Refused (refusal_held h))
+unfoldable pub last_held : List ℕ → Result Next Refusal
+last_held h = pick (eqb (word h phase_at) 2) (Ok next.Ended) (Err (refusal_held h))
 
 abbrev pub no_token : List ℕ
 no_token = replicate record_words 0

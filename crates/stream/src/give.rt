@@ -7,7 +7,7 @@ ghost use Rattle.driver.specs.Held.{held_words};
 ghost use Rattle.stream.specs.Words.{Gives, first_number, front_held, front_words, note_left, own, record_from, token_words, words_left};
 
 use crate::LEAST_RECORDS;
-use driver::held::{BASE, COUNTS, SLOT};
+use driver::held::{BASE, COUNTS, HELD_WORDS, SLOT};
 use records::token::kind_number;
 use records::{RECORD_WORDS, empty_at, load, note_in, set_note, store};
 use stacks::at_most;
@@ -37,8 +37,8 @@ fn note_left(n: u32) -> u32
 }
 
 // The first token of the record that begins at `at`; 1 where it was its own.
-fn give(words: &mut [u32], at: usize, token: &mut [u32]) -> u32
-    requires { (at + record_words ≤ length words.old) × (length token.old ≡ record_words) }
+fn give(words: &mut [u32], at: usize, token: &mut [u32; RECORD_WORDS]) -> u32
+    requires { at + record_words ≤ length words.old }
     ensures { (result ≡ own (note_in (record_from words.old at))) × (token.new ≡ token_words (record_from words.old at)) × (words.new ≡ words_left words.old at (note_in (record_from words.old at))) }
 {
     let x = load(words, at);
@@ -52,16 +52,16 @@ fn give(words: &mut [u32], at: usize, token: &mut [u32]) -> u32
     0
 }
 
-pub(crate) fn give_first(held: &mut [u32], words: &mut [u32], token: &mut [u32])
-    requires { (length held.old ≡ held_words) × (least_records * record_words ≤ length words.old) × (length token.old ≡ record_words) }
+pub(crate) fn give_first(held: &mut [u32; HELD_WORDS], words: &mut [u32], token: &mut [u32; RECORD_WORDS])
+    requires { least_records * record_words ≤ length words.old }
     ensures { Gives held.old words.old held.new words.new token.new }
 {
     let slot = at_most(LEAST_RECORDS as u32 - 1, held[SLOT]);
     held[SLOT] = slot + give(words, slot as usize * RECORD_WORDS, token);
 }
 
-pub(crate) fn to_front(held: &mut [u32], words: &mut [u32])
-    requires { (length held.old ≡ held_words) × (least_records * record_words ≤ length words.old) }
+pub(crate) fn to_front(held: &mut [u32; HELD_WORDS], words: &mut [u32])
+    requires { least_records * record_words ≤ length words.old }
     ensures { (held.new ≡ front_held held.old) × (words.new ≡ front_words held.old words.old) }
 {
     let slot = at_most(LEAST_RECORDS as u32 - 1, held[SLOT]);

@@ -24,22 +24,20 @@ use stacks::at_most;
 use yaml_scan::Limits;
 use yaml_text::Refusal;
 
-// The answer of a call.
+// The answer of a call, where it is no refusal.
 #[derive(Clone, Copy)]
 pub enum Next {
     // Its record was written.
     Token,
     // StreamEnd was given before.
     Ended,
-    Refused(Refusal),
 }
 
 // Records that the lent words must hold.
 pub const LEAST_RECORDS: usize = 4_400;
 
 // StreamEnd was scanned: what waits can all be given.
-fn close(held: &mut [u32], m: Counts)
-    requires { length held.old ≡ held_words }
+fn close(held: &mut [u32; HELD_WORDS], m: Counts)
     ensures { held.new ≡ close_held held.old m }
 {
     held[PHASE] = 2;
@@ -47,8 +45,7 @@ fn close(held: &mut [u32], m: Counts)
 }
 
 // Whether a token can be given.
-fn has_some(held: &[u32], words: &[u32]) -> bool
-    requires { length held.now ≡ held_words }
+fn has_some(held: &[u32; HELD_WORDS], words: &[u32]) -> bool
     ensures { result ≡ has_some held.now (length words.now) }
 {
     if words.len() < LEAST_RECORDS * RECORD_WORDS {
@@ -58,8 +55,7 @@ fn has_some(held: &[u32], words: &[u32]) -> bool
 }
 
 // The first token that waits is given, if it can be; whether it was.
-fn gives(held: &mut [u32], words: &mut [u32], token: &mut [u32]) -> bool
-    requires { (length held.old ≡ held_words) × (length token.old ≡ record_words) }
+fn gives(held: &mut [u32; HELD_WORDS], words: &mut [u32], token: &mut [u32; RECORD_WORDS]) -> bool
     ensures { MayGive held.old words.old token.old held.new words.new token.new result }
 {
     if has_some(held, words) {
@@ -70,45 +66,44 @@ fn gives(held: &mut [u32], words: &mut [u32], token: &mut [u32]) -> bool
 }
 
 // What is held says: a refusal, or the end.
-fn last_answer(held: &[u32], token: &mut [u32]) -> Next
-    requires { (length held.now ≡ held_words) × (length token.old ≡ record_words) }
+fn last_answer(held: &[u32; HELD_WORDS], token: &mut [u32; RECORD_WORDS]) -> Result<Next, Refusal>
     ensures { (result ≡ last_held held.now) × (token.new ≡ no_token) }
 {
     clear_words_from(token, 0);
     if held[PHASE] == 2 {
-        return Next::Ended;
+        return Ok(Next::Ended);
     }
-    Next::Refused(held_refusal(held))
+    Err(held_refusal(held))
 }
 
 // Steps, as many as are made at once; what they come to is held.
-fn scan_on(limits: Limits, held: &mut [u32], text: &[u8], words: &mut [u32], bytes: &mut [u8])
-    requires { Modest limits × (length text.now ≤ limits.bytes) × (length held.old ≡ held_words) × (least_records * record_words ≤ length words.old) }
+fn scan_on(limits: Limits, held: &mut [u32; HELD_WORDS], text: &[u8], words: &mut [u32], bytes: &mut [u8])
+    requires { Modest limits × (length text.now ≤ limits.bytes) × (least_records * record_words ≤ length words.old) }
     ensures { ScansOn limits text.now held.old words.old bytes.old held.new words.new bytes.new }
 {
     to_front(held, words);
     let o = all_steps(limits, text, true, held, words, bytes);
     match o {
-        Outcome::Stopped(f) => {
-            hold_refusal(held, f);
-        }
-        Outcome::Scanned(m) => {
+        Ok(Outcome::Scanned(m)) => {
             close(held, m);
         }
-        Outcome::Ready => {}
+        Ok(Outcome::Ready) => {}
+        Err(f) => {
+            hold_refusal(held, f);
+        }
     }
 }
 
 // A call where nothing can be given yet, behind the first. 1 and 52 come here only where text or words are others than before.
 fn go_on(
     limits: Limits,
-    held: &mut [u32],
+    held: &mut [u32; HELD_WORDS],
     text: &[u8],
     words: &mut [u32],
     bytes: &mut [u8],
-    token: &mut [u32],
-) -> Next
-    requires { Modest limits × (1 ≤ limits.entries) × (0 < word held.old phase_at) × (has_some held.old (length words.old) ≡ false) × (length held.old ≡ held_words) × (length token.old ≡ record_words) }
+    token: &mut [u32; RECORD_WORDS],
+) -> Result<Next, Refusal>
+    requires { Modest limits × (1 ≤ limits.entries) × (0 < word held.old phase_at) × (has_some held.old (length words.old) ≡ false) }
     ensures { Promises limits text.now held.old words.old bytes.old held.new words.new bytes.new token.new result }
 {
     if held[PHASE] != 1 {
@@ -122,7 +117,7 @@ fn go_on(
     }
     scan_on(limits, held, text, words, bytes);
     if gives(held, words, token) {
-        return Next::Token;
+        return Ok(Next::Token);
     }
     last_answer(held, token)
 }
@@ -130,36 +125,19 @@ fn go_on(
 // A call where nothing can be given at once. It has two callers, and stands apart from them: so giving a token stays short there.
 fn next_scanned(
     limits: Limits,
-    held: &mut [u32],
+    held: &mut [u32; HELD_WORDS],
     text: &[u8],
     words: &mut [u32],
     bytes: &mut [u8],
-    token: &mut [u32],
-) -> Next
-    requires { Modest limits × (1 ≤ limits.entries) × (has_some held.old (length words.old) ≡ false) × (length held.old ≡ held_words) × (length token.old ≡ record_words) }
+    token: &mut [u32; RECORD_WORDS],
+) -> Result<Next, Refusal>
+    requires { Modest limits × (1 ≤ limits.entries) × (has_some held.old (length words.old) ≡ false) }
     ensures { Promises limits text.now held.old words.old bytes.old held.new words.new bytes.new token.new result }
 {
     if held[PHASE] == 0 {
         return start(limits, held, text, words, token);
     }
     go_on(limits, held, text, words, bytes, token)
-}
-
-// For callers that keep more than this behind what is held.
-pub fn next_held(
-    held: &mut [u32],
-    text: &[u8],
-    words: &mut [u32],
-    bytes: &mut [u8],
-    token: &mut [u32; RECORD_WORDS],
-) -> Next
-    requires { length held.old ≡ held_words }
-    ensures { Promises standard text.now held.old words.old bytes.old held.new words.new bytes.new token.new result }
-{
-    if gives(held, words, token) {
-        return Next::Token;
-    }
-    next_scanned(standard(), held, text, words, bytes, token)
 }
 
 // The next token of a text. What is held is all zero at first; held, text, words and bytes are those of the call before.
@@ -169,11 +147,11 @@ pub fn next_token(
     words: &mut [u32],
     bytes: &mut [u8],
     token: &mut [u32; RECORD_WORDS],
-) -> Next
+) -> Result<Next, Refusal>
     ensures { Promises standard text.now held.old words.old bytes.old held.new words.new bytes.new token.new result }
 {
     if gives(held, words, token) {
-        return Next::Token;
+        return Ok(Next::Token);
     }
     next_scanned(standard(), held, text, words, bytes, token)
 }

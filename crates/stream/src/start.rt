@@ -4,7 +4,6 @@ ghost use Rattle.yaml_lexeme.specs.Record.{record_words};
 ghost use Rattle.yaml_text.specs.Mark.{origin};
 ghost use Rattle.yaml_stream.specs.Stream.{fresh};
 ghost use Rattle.driver.specs.Held.{Modest, held_words};
-ghost use Rattle.stream.specs.declared.Next.TheVariants as next;
 ghost use Rattle.stream.specs.Start.{Starts, begun_held};
 ghost use Rattle.stream.specs.Words.{no_token, put_refusal, refusal_held, refused_held};
 ghost use Rattle.yaml_lexeme.specs.declared.Kind.TheVariants as kind;
@@ -12,7 +11,7 @@ ghost use Rattle.yaml_lexeme.specs.Record.{record_of};
 ghost use Rattle.events.specs.Event.{empty_of};
 
 use crate::{LEAST_RECORDS, Next};
-use driver::held::{BASE, MARK, NUMBER, PHASE, SLOT, UNTIL, store_counts, store_state};
+use driver::held::{BASE, HELD_WORDS, MARK, NUMBER, PHASE, SLOT, UNTIL, store_counts, store_state};
 use events::Counts;
 use records::token::record_of;
 use records::{RECORD_WORDS, store};
@@ -39,8 +38,7 @@ pub(crate) fn outside(number: u32) -> Refusal
 }
 
 // A refusal is held, which stands for ever.
-pub(crate) fn hold_refusal(held: &mut [u32], f: Refusal)
-    requires { length held.old ≡ held_words }
+pub(crate) fn hold_refusal(held: &mut [u32; HELD_WORDS], f: Refusal)
     ensures { held.new ≡ put_refusal held.old f }
 {
     let m = f.mark;
@@ -52,8 +50,7 @@ pub(crate) fn hold_refusal(held: &mut [u32], f: Refusal)
 }
 
 // The refusal that is held.
-pub(crate) fn held_refusal(held: &[u32]) -> Refusal
-    requires { length held.now ≡ held_words }
+pub(crate) fn held_refusal(held: &[u32; HELD_WORDS]) -> Refusal
     ensures { result ≡ refusal_held held.now }
 {
     let m = Mark {
@@ -68,20 +65,18 @@ pub(crate) fn held_refusal(held: &[u32]) -> Refusal
 }
 
 // A refusal where nothing can be given.
-pub(crate) fn refused(held: &mut [u32], token: &mut [u32], f: Refusal) -> Next
-    requires { (length held.old ≡ held_words) × (length token.old ≡ record_words) }
-    ensures { (result ≡ next.Refused f) × (held.new ≡ refused_held held.old f) × (token.new ≡ no_token) }
+pub(crate) fn refused(held: &mut [u32; HELD_WORDS], token: &mut [u32; RECORD_WORDS], f: Refusal) -> Result<Next, Refusal>
+    ensures { (result ≡ Err f) × (held.new ≡ refused_held held.old f) × (token.new ≡ no_token) }
 {
     hold_refusal(held, f);
     held[SLOT] = 0;
     held[UNTIL] = 0;
     clear_words_from(token, 0);
-    Next::Refused(f)
+    Err(f)
 }
 
 // StreamStart is given, and the scan begins behind it.
-fn begin(held: &mut [u32], token: &mut [u32])
-    requires { (length held.old ≡ held_words) × (length token.old ≡ record_words) }
+fn begin(held: &mut [u32; HELD_WORDS], token: &mut [u32; RECORD_WORDS])
     ensures { (held.new ≡ begun_held held.old) × (token.new ≡ record_of (empty_of kind.StreamStart origin)) }
 {
     clear_words_from(held, 0);
@@ -107,12 +102,12 @@ fn begin(held: &mut [u32], token: &mut [u32])
 // 1; 2 or 3, of the whole text; then 52; else StreamStart.
 pub(crate) fn start(
     limits: Limits,
-    held: &mut [u32],
+    held: &mut [u32; HELD_WORDS],
     text: &[u8],
     words: &[u32],
-    token: &mut [u32],
-) -> Next
-    requires { Modest limits × (length held.old ≡ held_words) × (length token.old ≡ record_words) }
+    token: &mut [u32; RECORD_WORDS],
+) -> Result<Next, Refusal>
+    requires { Modest limits }
     ensures { Starts held.old held.new token.new result (fresh limits text.now (length words.now)) }
 {
     if limits.bytes < text.len() {
@@ -126,5 +121,5 @@ pub(crate) fn start(
         return refused(held, token, outside(52));
     }
     begin(held, token);
-    Next::Token
+    Ok(Next::Token)
 }
