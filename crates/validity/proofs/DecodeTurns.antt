@@ -16,15 +16,15 @@ use Rattle.yaml_text.specs.Refusal.{Read, ◌>>=◌, got, need, refused}
 use Rattle.yaml_text.specs.Decode.{decode, decoded_char}
 use Rattle.yaml_text.proofs.Utf8Laws.{first_fits}
 use Rattle.chars.specs.Bytes.{NoChar}
-use Rattle.validity.specs.declared.Checked.{Checked}
-use Rattle.validity.specs.declared.Checked.TheVariants.{Refused}
+use Rattle.std.specs.Prelude.{Err, Result}
+use Rattle.yaml_text.specs.declared.Refusal.{Refusal}
 use Rattle.validity.specs.Checked.{checked}
 
 pub some_left : (s : List ℕ) (at : ℕ) → at < length s → 0 < length (drop at s)
 some_left s at h = rw length-drop (omega arith)
 
-abbrev pub refusal : ℕ → Mark → Checked
-refusal n m = Refused (record { number = n; mark = m })
+abbrev pub refusal : ℕ → Mark → Result (Unit {0}) Refusal
+refusal n m = Err (record { number = n; mark = m })
 
 pub checked_char : (c : ℕ) (r : Read (List ℕ)) → checked (r >>= λ cs. got (c ∷ cs)) ≡ checked r
 unfolding checked ◌>>=◌

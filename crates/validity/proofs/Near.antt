@@ -22,13 +22,13 @@ use Rattle.chars.specs.Lines.{break_cr, break_crlf, break_lf, break_none, break_
 use Rattle.chars.specs.Places.{stands_along, stands_line, stands_start}
 use Rattle.chars.specs.Reach.{reach_within}
 use Rattle.chars.specs.View.{Stands, past}
-use Rattle.validity.specs.declared.Checked.{Checked}
-use Rattle.validity.specs.declared.Checked.TheVariants.{Sound}
+use Rattle.std.specs.Prelude.{Ok, Result}
+use Rattle.yaml_text.specs.declared.Refusal.{Refusal}
 use Rattle.validity.specs.Checked.{checked}
 use Rattle.validity.proofs.DecodeTurns.{turn}
 
 -- the answer to the bytes from a place on
-abbrev from : List ℕ → ℕ → Mark → Checked
+abbrev from : List ℕ → ℕ → Mark → Result (Unit {0}) Refusal
 from s at m = checked (decode 0 m (drop at s))
 
 pub record Near (s : List ℕ) (p : Place) : Type 0 where
@@ -89,6 +89,6 @@ near_break {s} {p} n w e z =
       same = sym (broken p.mark s p.at n e z) ∙ w.same;
     }
 
-pub near_end : {s : List ℕ} {p : Place} → Near s p → length s ≤ p.at → Sound ≡ checked (decode 0 origin s)
+pub near_end : {s : List ℕ} {p : Place} → Near s p → length s ≤ p.at → Ok tt ≡ checked (decode 0 origin s)
 unfolding decode checked
 near_end {s} w h = rw (drop_of_length-le s h) at w.same

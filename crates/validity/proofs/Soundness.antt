@@ -18,15 +18,15 @@ use Rattle.yaml_text.specs.Refusal.{Read, ◌>>=◌, got, need}
 use Rattle.yaml_text.specs.Decode.{decode, decoded_char}
 use Rattle.yaml_text.specs.Test.{by_test, true_false}
 use Rattle.yaml_text.proofs.Utf8Laws.{first_fits}
-use Rattle.validity.specs.declared.Checked.{Checked}
-use Rattle.validity.specs.declared.Checked.TheVariants.{Refused, Sound}
+use Rattle.std.specs.Prelude.{Ok, Err, Result}
+use Rattle.yaml_text.specs.declared.Refusal.{Refusal}
 use Rattle.validity.specs.Checked.{checked}
 use Rattle.validity.specs.Sound.{PassesTo, good_len, onto, passes, past, sound, stops}
 use Rattle.validity.proofs.DecodeTurns.{checked_char, some_left, turn, turn_none, turn_nul}
 
-pub passes_sound : (r : Checked) → passes r ≡ true → Sound ≡ r
-passes_sound Sound e = refl
-passes_sound (Refused x) e = true_false (sym e)
+pub passes_sound : (r : Result (Unit {0}) Refusal) → passes r ≡ true → Ok tt ≡ r
+passes_sound (Ok u) e = refl
+passes_sound (Err x) e = true_false (sym e)
 
 -- whether a text passes does not depend on the mark
 free_char : (d : Decoded) (m m' : Mark) (go go' : ℕ → ℕ → Read (List ℕ)) → ((c n : ℕ) → passes (checked (go c n)) ≡ passes (checked (go' c n)))

@@ -1,5 +1,5 @@
 -- What the inner functions of the validity pass answer.
-use Rattle.std.specs.Prelude.{◌+◌, ◌-◌, ◌<◌, ◌≤◌, ℕ, Bool, false, true, List, ◌≡◌, ltb, drop}
+use Rattle.std.specs.Prelude.{◌+◌, ◌-◌, ◌<◌, ◌≤◌, ℕ, Bool, false, true, List, Result, Ok, Err, ◌≡◌, ltb, drop}
 use Rattle.yaml_text.specs.declared.Decoded.{Decoded}
 use Rattle.yaml_text.specs.declared.Decoded.TheVariants.{Char, End, Ill}
 use Rattle.yaml_text.specs.Pick.{pick}
@@ -7,13 +7,12 @@ use Rattle.yaml_text.specs.Class.{is_z}
 use Rattle.yaml_text.specs.Mark.{origin}
 use Rattle.yaml_text.specs.Decode.{decode}
 use Rattle.yaml_text.specs.Utf8.{first}
-use Rattle.validity.specs.declared.Checked.{Checked}
-use Rattle.validity.specs.declared.Checked.TheVariants.{Refused, Sound}
+use Rattle.yaml_text.specs.declared.Refusal.{Refusal}
 use Rattle.validity.specs.Checked.{checked}
 
-abbrev pub passes : Checked → Bool
-passes Sound = true
-passes (Refused r) = false
+abbrev pub passes : Result (Unit {0}) Refusal → Bool
+passes (Ok u) = true
+passes (Err r) = false
 
 -- the bytes are well-formed without NUL
 abbrev pub sound : List ℕ → Bool

@@ -8,20 +8,13 @@ ghost use Rattle.yaml_text.specs.Decode.{decode};
 ghost use Rattle.chars.specs.Ascii.{low};
 ghost use Rattle.chars.specs.Each.{all_of};
 ghost use Rattle.validity.specs.Checked.{checked};
-ghost use Rattle.validity.specs.declared.Checked.TheVariants.{Refused};
 ghost use Rattle.validity.specs.Sound.{PassesTo, block_end, good_len, sound};
 
-use chars::block::{ByteClass, all_of};
+use chars::block::{Ascii, all_of};
 use chars::mark::{Place, break_length};
+use chars::refuse::refuse;
 use utf8::{byte, char_at, four_bytes, lead_len, three_bytes, two_bytes};
-use yaml_text::{Decoded, Mark, Refusal};
-
-// Whether a text may be scanned.
-#[derive(Clone, Copy)]
-pub enum Checked {
-    Sound,
-    Refused(Refusal),
-}
+use yaml_text::{Decoded, Refusal};
 
 // How many bytes a decoded character takes; 0 where there is none other than NUL.
 fn good_len(d: Decoded) -> usize
@@ -101,7 +94,7 @@ fn is_ascii(s: &[u8], at: usize, e: usize) -> bool
     if 127 < s[at] {
         return false;
     }
-    all_of(&s[at..e], ByteClass::Ascii)
+    all_of::<Ascii>(&s[at..e])
 }
 
 // Whether a text is well-formed without NUL: by blocks, and by characters only where a block is not plain.
@@ -124,17 +117,8 @@ fn is_sound(s: &[u8]) -> bool
     true
 }
 
-fn refused(number: u32, m: Mark) -> Checked
-    ensures { result ≡ Refused (record { number = number; mark = m }) }
-{
-    Checked::Refused(Refusal {
-        number: number,
-        mark: m,
-    })
-}
-
 // The first refusal of a text, by a second pass that moves the mark.
-fn first_refusal(s: &[u8]) -> Checked
+fn first_refusal(s: &[u8]) -> Result<(), Refusal>
     requires { length s.now ≤ 1_048_576 }
     ensures { result ≡ checked (decode 0 origin s.now) }
 {
@@ -148,23 +132,23 @@ fn first_refusal(s: &[u8]) -> Checked
         }
         let d = char_at(s, at);
         let Decoded::Char { code, len } = d else {
-            return refused(2, p.mark);
+            return refuse(2, p.mark);
         };
         if code == 0 {
-            return refused(3, p.mark);
+            return refuse(3, p.mark);
         }
         p = p.skip_non_blank(len);
     }
-    Checked::Sound
+    Ok(())
 }
 
-// Refusal 2 or 3, whichever stands earlier, or that the text may be scanned.
-pub fn check_text(s: &[u8]) -> Checked
+// Whether a text may be scanned: refusal 2 or 3, whichever stands earlier.
+pub fn check_text(s: &[u8]) -> Result<(), Refusal>
     requires { length s.now ≤ 1_048_576 }
     ensures { result ≡ checked (decode 0 origin s.now) }
 {
     if is_sound(s) {
-        return Checked::Sound;
+        return Ok(());
     }
     first_refusal(s)
 }

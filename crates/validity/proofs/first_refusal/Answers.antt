@@ -24,14 +24,14 @@ loop-p-preserved-then-n-ne0 c = rw c.skip_linebreak-p.ensures (near_break c.brea
 
 pub returns-in_default : goal.returns-in_default
 returns-in_default c =
-    c.refused.ensures
+    c.refuse.ensures
     ∙ turn_none c.loop-p.p.mark (drop c.loop-p.p.at (c.args.s.now)) c.char_at-d.result (some_left (c.args.s.now) c.loop-p.p.at c.loop-p-test.true) c.char_at-d.ensures (not_char c.char_at-d.result c.in_default.not-Char)
     ∙ c.loop-p.invariant.same
 
 pub returns-then-code-eq0 : goal.returns-then-code-eq0
 returns-then-code-eq0 c =
     let char : CharAt (c.args.s.now) c.loop-p.p.at c.in-Char.code c.in-Char.len = char_at _ _ _ _ (sym c.char_at-d.ensures ∙ c.in-Char.is) in
-    c.refused-then-code-eq0.ensures ∙ turn_nul c.loop-p.p.mark _ _ _ (char).is c.if-code-eq0.true ∙ c.loop-p.invariant.same
+    c.refuse-then-code-eq0.ensures ∙ turn_nul c.loop-p.p.mark _ _ _ (char).is c.if-code-eq0.true ∙ c.loop-p.invariant.same
 
 pub skip_non_blank-p-requires : goal.skip_non_blank-p-requires
 skip_non_blank-p-requires c =
