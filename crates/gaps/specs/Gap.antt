@@ -1,5 +1,6 @@
 -- What code answers for a gap, held against the definition.
-use Rattle.std.specs.Prelude.{◌≤◌, ℕ, Bool, false, List, ◌≡◌, eqb}
+use Rattle.std.specs.Prelude.{◌≤◌, ℕ, Bool, false, List, ◌≡◌, eqb, Result, Ok, Err}
+use Rattle.yaml_text.specs.declared.Refusal.{Refusal}
 use Rattle.yaml_text.specs.Char.{'#'}
 use Rattle.yaml_text.specs.Class.{is_blank, is_break, peek}
 use Rattle.yaml_text.specs.Mark as place
@@ -9,18 +10,17 @@ use Rattle.yaml_lexeme.specs.declared.Before.TheVariants.{AfterText, InComment, 
 use Rattle.yaml_lexeme.specs.Gap as definition
 use Rattle.chars.specs.declared.mark.Place.{Place}
 use Rattle.chars.specs.View.{Stands, view}
-use Rattle.gaps.specs.declared.Gapped.{Gapped}
-use Rattle.gaps.specs.declared.Gapped.TheVariants.{Got, Refused}
+use Rattle.gaps.specs.declared.Gap.{Gap}
 
-unfoldable pub seen_gap : List ℕ → Gapped → Read definition.Gap
-seen_gap text (Got g) = got (record { place = view text g.place; simple_key_allowed = g.simple_key_allowed; leading_whitespace = g.leading_whitespace })
-seen_gap text (Refused f) = refused f.number f.mark
+unfoldable pub seen_gap : List ℕ → Result Gap Refusal → Read definition.Gap
+seen_gap text (Ok g) = got (record { place = view text g.place; simple_key_allowed = g.simple_key_allowed; leading_whitespace = g.leading_whitespace })
+seen_gap text (Err f) = refused f.number f.mark
 
-abbrev pub GapEnds : List ℕ → Place → Gapped → Type 0
-GapEnds text p (Got g) = Stands text g.place × (p.at ≤ g.place.at)
-GapEnds text p (Refused f) = Unit {0}
+abbrev pub GapEnds : List ℕ → Place → Result Gap Refusal → Type 0
+GapEnds text p (Ok g) = Stands text g.place × (p.at ≤ g.place.at)
+GapEnds text p (Err f) = Unit {0}
 
-pub record Skips (text : List ℕ) (p : Place) (r : Gapped) (d : Read definition.Gap) : Type 0 where
+pub record Skips (text : List ℕ) (p : Place) (r : Result Gap Refusal) (d : Read definition.Gap) : Type 0 where
   pub same : seen_gap text r ≡ d
   pub onward : GapEnds text p r
 

@@ -4,22 +4,20 @@
 ghost use Rattle.std.specs.Prelude.{◌+◌, ◌^◌, ◌≤◌, Bool, ◌≡◌, drop, length};
 ghost use Rattle.yaml_text.specs.Pick.{pick};
 ghost use Rattle.yaml_text.specs.Utf8.{chars};
-ghost use Rattle.yaml_lexeme.specs.declared.Before.TheVariants.{AfterText, Leading, Tabbed};
-ghost use Rattle.yaml_lexeme.specs.Gap.{blanks, blanks_and_comment, on_blank, skip_gap, to_break};
-ghost use Rattle.chars.specs.Blocks.{is_space};
-ghost use Rattle.chars.specs.Each.{Blocks};
+ghost use Rattle.yaml_lexeme.specs.declared.Before.TheVariants.{AfterText, Leading};
+ghost use Rattle.yaml_lexeme.specs.Gap.{blanks, blanks_and_comment, is_leading, on_blank, skip_gap, to_break};
 ghost use Rattle.chars.specs.View.{Moves, Stands, view};
 ghost use Rattle.reading.specs.Reading.{ReachesAs};
-ghost use Rattle.gaps.specs.declared.Gapped.TheVariants.{Got, Refused};
 ghost use Rattle.gaps.specs.Gap.{Open, Other, Skips, gap_from};
 ghost use Rattle.gaps.specs.Line.{is_low, line, low_run};
 ghost use Rattle.gaps.specs.Spaces.{Tries, space_run};
 ghost use Rattle.chars.specs.Parts.{Spans};
 
-use chars::block::{ByteClass, all_of};
+use chars::block::{Space, past_blocks};
 use chars::class::{is_blank, is_break};
 use chars::mark::{Place, break_length};
-use reading::{Reached, stuck};
+use chars::pick::pick;
+use chars::refuse::refuse;
 use utf8::{byte, char_at};
 use yaml_lexeme::Before;
 use yaml_text::{Decoded, Mark, Refusal};
@@ -30,32 +28,18 @@ pub fn skip_blanks(text: &[u8], start: Place) -> Place
     ensures { Moves text.now start result (blanks start.mark (chars (drop start.at text.now))) }
 {
     let mut p = start;
-    loop {
-        let at = p.at;
-        if is_blank(byte(text, at) as u32) {
-            p = p.skip_blank();
-        } else {
-            return p;
-        }
+    while is_blank(byte(text, p.at) as u32) {
+        p = p.skip_blank();
     }
+    p
 }
 
 // How many bytes from a place on are characters of its line, each of one byte.
 fn low_run(text: &[u8], at: usize) -> u32
-    requires { length text.now ≤ at + 2 ^ 20 }
+    requires { (at ≤ length text.now) × (length text.now ≤ at + 2 ^ 20) }
     ensures { result ≡ low_run (drop at text.now) }
 {
-    let mut i = at;
-    let mut n: u32 = 0;
-    while i < text.len() {
-        if is_low(text[i]) {
-            i += 1;
-            n += 1;
-        } else {
-            return n;
-        }
-    }
-    n
+    text[at..].iter().take_while(|b| is_low(**b)).count() as u32
 }
 
 // Whether a byte is a character that is no break.
@@ -95,7 +79,7 @@ fn to_break(text: &[u8], start: Place) -> Place
 }
 
 // The blanks and comment read after a directive, a block header, a quoted scalar, a bracket, ',' and `...`.
-pub fn blanks_and_comment(text: &[u8], start: Place) -> Reached
+pub fn blanks_and_comment(text: &[u8], start: Place) -> Result<Place, Refusal>
     requires { Stands text.now start }
     ensures { ReachesAs text.now start result (blanks_and_comment (view text.now start)) }
 {
@@ -104,13 +88,12 @@ pub fn blanks_and_comment(text: &[u8], start: Place) -> Reached
     let p = skip_blanks(text, start);
     let at = p.at;
     if byte(text, at) != b'#' {
-        return Reached::To(p);
+        return Ok(p);
     }
     if blank {
-        return Reached::To(to_break(text, p));
+        return Ok(to_break(text, p));
     }
-    let m = p.mark;
-    stuck(44, m)
+    refuse(44, p.mark)
 }
 
 // A gap's end: where it ends, whether a simple key is allowed there, whether only blanks stand before it on its line.
@@ -121,101 +104,39 @@ pub struct Gap {
     pub leading_whitespace: bool,
 }
 
-#[derive(Clone, Copy)]
-pub enum Gapped {
-    Got(Gap),
-    Refused(Refusal),
-}
-
 // What stands before the character behind the blank c.
 fn on_blank(flow: bool, m: Mark, c: u8, b: Before) -> Before
     ensures { result ≡ on_blank flow m c b }
 {
     match b {
-        Before::Leading => {
-            if flow {
-                return b;
-            }
-            if c == b'\t' { Before::Tabbed(m) } else { b }
-        }
-        Before::Tabbed(_) => b,
-        Before::Spaced => b,
+        Before::Leading if !flow & (c == b'\t') => Before::Tabbed(m),
         Before::AfterText => Before::Spaced,
-        Before::InComment => b,
+        _ => b,
     }
 }
 
-fn ended(place: Place, allowed: bool, leads: bool) -> Gapped
-    ensures { result ≡ Got (record { place = place; simple_key_allowed = allowed; leading_whitespace = leads }) }
+// Whether only blanks stand between the line's start and here.
+fn is_leading(b: Before) -> bool
+    ensures { result ≡ is_leading b }
 {
-    Gapped::Got(Gap {
-        place: place,
-        simple_key_allowed: allowed,
-        leading_whitespace: leads,
-    })
+    matches!(b, Before::Leading | Before::Tabbed(_))
 }
 
-fn wrong(number: u32, mark: Mark) -> Gapped
-    ensures { result ≡ Refused (record { number = number; mark = mark }) }
-{
-    Gapped::Refused(Refusal {
-        number: number,
-        mark: mark,
-    })
-}
-
-// The gap ends here, with a tab among the line's leading blanks: 45 where a token stands here.
-fn tabbed_end(text: &[u8], p: Place, allowed: bool, tab: Mark) -> Gapped
-    requires { Stands text.now p × Other (chars (drop p.at text.now)) }
-    ensures { (flow : Bool) → Skips text.now p result (gap_from flow allowed (Tabbed tab) (view text.now p)) }
-{
-    let at = p.at;
-    let d = char_at(text, at);
-    match d {
-        Decoded::Char { code: _, len: _ } => wrong(45, tab),
-        Decoded::Ill => ended(p, allowed, true),
-        Decoded::End => ended(p, allowed, true),
-    }
-}
-
-// The gap ends here.
-fn gap_end(text: &[u8], p: Place, allowed: bool, b: Before) -> Gapped
+// The gap ends here. 45: a token stands here, with a tab among the line's leading blanks.
+fn gap_end(text: &[u8], p: Place, allowed: bool, b: Before) -> Result<Gap, Refusal>
     requires { Stands text.now p × Other (chars (drop p.at text.now)) × Open b }
     ensures { (flow : Bool) → Skips text.now p result (gap_from flow allowed b (view text.now p)) }
 {
-    match b {
-        Before::Leading => ended(p, allowed, true),
-        Before::Tabbed(m) => tabbed_end(text, p, allowed, m),
-        Before::Spaced => ended(p, allowed, false),
-        Before::AfterText => ended(p, allowed, false),
-        Before::InComment => ended(p, allowed, false),
-    }
-}
-
-fn before_of(leads: bool) -> Before
-    ensures { result ≡ pick leads Leading AfterText }
-{
-    if leads {
-        Before::Leading
-    } else {
-        Before::AfterText
-    }
-}
-
-// Over blocks of 16 spaces.
-fn past_space_blocks(text: &[u8], start: usize) -> usize
-    requires { start ≤ length text.now }
-    ensures { Blocks is_space text.now start result }
-{
-    let mut at = start;
-    while at + 16 <= text.len() {
-        if all_of(&text[at..at + 16], ByteClass::Space) {
-            at += 16;
-        } else {
-            return at;
+    if let Before::Tabbed(tab) = b {
+        if let Decoded::Char { code: _, len: _ } = char_at(text, p.at) {
+            return refuse(45, tab);
         }
     }
-    at
+    Ok(Gap {
+        place: p,
+        simple_key_allowed: allowed,
+        leading_whitespace: is_leading(b),
+    })
 }
 
 // Over spaces that stand in blocks, where the place is one that a block is tried at.
@@ -226,7 +147,7 @@ fn past_some_spaces(text: &[u8], at: usize) -> usize
     if at % 16 != 0 {
         return at;
     }
-    past_space_blocks(text, at)
+    past_blocks::<Space>(text, at)
 }
 
 // Where the spaces end that begin at a place.
@@ -235,22 +156,19 @@ fn past_spaces(text: &[u8], start: usize) -> usize
     ensures { result ≡ start + space_run (drop start text.now) }
 {
     let mut at = start;
-    while at < text.len() {
-        if text[at] != b' ' {
-            return at;
-        }
+    while at < text.len() && text[at] == b' ' {
         at = past_some_spaces(text, at + 1);
     }
     at
 }
 
 // The gap that begins here.
-pub fn skip_gap(text: &[u8], start: Place, flow: bool, allowed: bool, leads: bool) -> Gapped
+pub fn skip_gap(text: &[u8], start: Place, flow: bool, allowed: bool, leads: bool) -> Result<Gap, Refusal>
     requires { Stands text.now start }
     ensures { Skips text.now start result (skip_gap flow allowed (pick leads Leading AfterText) start.mark (chars (drop start.at text.now))) }
 {
     let mut p = start;
-    let mut b = before_of(leads);
+    let mut b = pick(leads, Before::Leading, Before::AfterText);
     let mut ok = allowed;
     loop {
         let at = p.at;
@@ -272,8 +190,7 @@ pub fn skip_gap(text: &[u8], start: Place, flow: bool, allowed: bool, leads: boo
             return gap_end(text, p, ok, b);
         }
         if let Before::AfterText = b {
-            let m = p.mark;
-            return wrong(44, m);
+            return refuse(44, p.mark);
         }
         // Behind a comment, as behind a blank: a break or the end.
         b = Before::Spaced;
