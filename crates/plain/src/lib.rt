@@ -1,7 +1,7 @@
 // K7: plain scalars.
 #![tactic(auto)]
 
-ghost use Rattle.std.specs.Prelude.{false, ◌≡◌, ◌+◌, ◌-◌, ◌<◌, ◌^◌, ◌≤◌, drop, get_or, length};
+ghost use Rattle.std.specs.Prelude.{Ok, false, ◌≡◌, ◌+◌, ◌-◌, ◌<◌, ◌^◌, ◌≤◌, drop, get_or, length};
 ghost use Rattle.yaml_text.specs.Class.{is_blank, is_z, peek};
 ghost use Rattle.yaml_text.specs.Mark.{along_by};
 ghost use Rattle.yaml_text.specs.Refusal.{got};
@@ -14,10 +14,11 @@ ghost use Rattle.chars.specs.View.{Small, Stands, view};
 ghost use Rattle.reading.specs.Reading.{ReaderGiven, Lexes, first_at};
 ghost use Rattle.plain.specs.Text.{ends_at_colon, text_length, usual};
 
-use chars::block::{ByteClass, all_of, is_ordinary};
+use chars::block;
+use chars::block::{Ordinary, is_ordinary};
 use chars::class::{is_blank, is_blank_or_breakz, is_bom, is_breakz, is_flow};
 use chars::mark::Place;
-use reading::{Reading, got, text_at};
+use reading::{Lexeme, text_at};
 use utf8::{byte, char_at, is_tail, lead_len, look, three_bytes, two_bytes};
 use yaml_lexeme::{Kind, Style};
 use yaml_text::{Decoded, Mark};
@@ -62,14 +63,11 @@ fn wide_at(text: &[u8], at: usize, b: u8) -> Decoded
     requires { (at ≤ length text.now) × (b ≡ get_or text.now at 0) × (128 ≤ b) }
     ensures { result ≡ first (drop at text.now) }
 {
-    let n = lead_len(b);
-    if n == 2 {
-        return two_bytes(b, byte(text, at + 1));
+    match lead_len(b) {
+        2 => two_bytes(b, byte(text, at + 1)),
+        3 => three_bytes(b, byte(text, at + 1), byte(text, at + 2)),
+        _ => char_at(text, at),
     }
-    if n == 3 {
-        return three_bytes(b, byte(text, at + 1), byte(text, at + 2));
-    }
-    char_at(text, at)
 }
 
 // Whether the byte b at a place and the two behind it are one character by their form: these leads begin no surrogate, no byte order mark and
@@ -84,28 +82,28 @@ fn is_usual(text: &[u8], at: usize, b: u8) -> bool
     false
 }
 
-// How many bytes the character takes that begins with the byte b at a place; 0: the text ends before it.
-fn text_length(text: &[u8], at: usize, flow: bool, blank: bool, b: u8) -> usize
+// How many bytes the character takes that begins with the byte b at a place, if it is text.
+fn text_length(text: &[u8], at: usize, flow: bool, blank: bool, b: u8) -> Option<usize>
     requires { (at ≤ length text.now) × (b ≡ get_or text.now at 0) }
     ensures { result ≡ text_length flow blank text.now at }
 {
     if b < 128 {
         if stops(text, at, flow, blank, b) {
-            return 0;
+            return None;
         }
-        return 1;
+        return Some(1);
     }
     if is_usual(text, at, b) {
-        return 3;
+        return Some(3);
     }
     let d = wide_at(text, at, b);
     let Decoded::Char { code, len } = d else {
-        return 0;
+        return None;
     };
     if is_bom(code) {
-        return 0;
+        return None;
     }
-    len
+    Some(len)
 }
 
 // Past the blocks of 16 ordinary bytes here. Many scalars have not one such byte behind their first character, and for them no block is looked at.
@@ -113,18 +111,10 @@ fn past_blocks(text: &[u8], start: usize) -> usize
     requires { start ≤ length text.now }
     ensures { Blocks ordinary text.now start result }
 {
-    let mut at = start;
-    if !is_ordinary(byte(text, at)) {
-        return at;
+    if !is_ordinary(byte(text, start)) {
+        return start;
     }
-    while at + 16 <= text.len() {
-        if all_of(&text[at..at + 16], ByteClass::Ordinary) {
-            at += 16;
-        } else {
-            return at;
-        }
-    }
-    at
+    block::past_blocks::<Ordinary>(text, start)
 }
 
 // The place `end`, behind characters that have so many bytes more than one each.
@@ -153,10 +143,9 @@ fn text_end(text: &[u8], start: Place, flow: bool) -> Place
         } else if is_blank_byte(b) {
             at += 1;
         } else {
-            let n = text_length(text, at, flow, end < at, b);
-            if n == 0 {
+            let Some(n) = text_length(text, at, flow, end < at, b) else {
                 return behind(start, end, extra);
-            }
+            };
             at += n;
             end = at;
             extra += n - 1;
@@ -165,16 +154,16 @@ fn text_end(text: &[u8], start: Place, flow: bool) -> Place
 }
 
 // From its first character, whatever that is.
-pub fn scan_plain_scalar(text: &[u8], start: Mark, flow: bool, used: u32, out: &mut [u8]) -> Reading
+pub fn scan_plain_scalar(text: &[u8], start: Mark, flow: bool, used: u32, out: &mut [u8]) -> Lexeme
     requires { ReaderGiven text.now start used × (is_z (peek (chars text.now) 0) ≡ false) }
-    ensures { Lexes text.now out.old out.new used result (got (scan_plain_scalar flow (view text.now (first_at start)))) }
+    ensures { Lexes text.now out.old out.new used (Ok result) (got (scan_plain_scalar flow (view text.now (first_at start)))) }
 {
     let first = Place::first_at(start);
     let len = lead_len(byte(text, 0)) as usize;
     let e = text_end(text, first.skip_non_blank(len), flow);
     let n = e.at;
     rooms::copy(out, 0, &text[..n]);
-    got(
+    Lexeme::new(
         Kind::Scalar {
             style: Style::Plain,
             text: text_at(used, n),

@@ -1,6 +1,7 @@
 -- A turn of the code, held against the definition: what is left to read, behind what is written, gives the whole.
-use Rattle.std.specs.Prelude.{◌*◌, ◌+◌, ◌<◌, ◌≤◌, ℕ, ◌&&◌, false, List, ◌≡◌, eqb, ltb, drop, length, replicate}
+use Rattle.std.specs.Prelude.{◌*◌, ◌+◌, ◌<◌, ◌≤◌, ℕ, ◌&&◌, false, List, Result, Ok, Err, ◌≡◌, eqb, ltb, drop, length}
 use Rattle.std.proofs.lemmas.List.Edits.{sets}
+use Rattle.yaml_text.specs.declared.Refusal.{Refusal}
 use Rattle.yaml_text.specs.Mark as definition
 use Rattle.yaml_text.specs.Class.{is_blank, is_break}
 use Rattle.yaml_text.specs.Char.{tab}
@@ -12,15 +13,12 @@ use Rattle.yaml_lexeme.specs.Quoted as quotes
 use Rattle.chars.specs.declared.mark.Place.{Place}
 use Rattle.chars.specs.Bytes.{CharAt}
 use Rattle.chars.specs.View.{Stands, past, view}
-use Rattle.escapes.specs.declared.answer.Escape.{Escape}
-use Rattle.escapes.specs.declared.answer.Escape.TheVariants as escape
 use Rattle.quoted.specs.declared.fold.Mode.TheVariants.{Chars}
-use Rattle.quoted.specs.declared.turns.End.{End}
-use Rattle.quoted.specs.declared.turns.End.TheVariants.{Closed, Refused}
+use Rattle.reading.specs.declared.Written.{Written}
 use Rattle.quoted.specs.declared.turns.Quote.{Quote}
 use Rattle.quoted.specs.declared.turns.Progress.{Progress}
 use Rattle.quoted.specs.declared.turns.Turned.{Turned}
-use Rattle.quoted.specs.declared.turns.Turned.TheVariants.{Ends, Goes}
+use Rattle.quoted.specs.declared.turns.Turned.TheVariants.{Closes, Goes}
 use Rattle.reading.specs.Puts.{Puts}
 use Rattle.quoted.specs.Modes.{BlanksKept, behind_break, blank_mode, break_mode, mode_of, owed}
 use Rattle.quoted.specs.Texts.{Stretch, turn_stretch}
@@ -48,14 +46,15 @@ abbrev pub to_write : List ℕ → Quote → List ℕ → Progress → Read Quot
 to_write text q out t = written out t.count (rest_of text q t)
 
 -- where the scalar ended
-unfoldable pub ended : List ℕ → List ℕ → End → Read QuotedText
-ended text out (Closed n p) = got (record { bytes = out; count = n; place = view text p })
-ended text out (Refused f) = refused f.number f.mark
+unfoldable pub ended : List ℕ → List ℕ → Result Written Refusal → Read QuotedText
+ended text out (Ok w) = got (record { bytes = out; count = w.count; place = view text w.place })
+ended text out (Err f) = refused f.number f.mark
 
 -- where a turn led to
-unfoldable pub led_to : List ℕ → Quote → List ℕ → Turned → Read QuotedText
-led_to text q out (Goes t) = to_write text q out t
-led_to text q out (Ends e) = ended text out e
+unfoldable pub led_to : List ℕ → Quote → List ℕ → Result Turned Refusal → Read QuotedText
+led_to text q out (Ok (Goes t)) = to_write text q out t
+led_to text q out (Ok (Closes w)) = ended text out (Ok w)
+led_to text q out (Err f) = refused f.number f.mark
 
 -- a state within its bounds: at most three bytes of text for each that was read
 pub record Sound (text : List ℕ) (t : Progress) : Type 0 where
@@ -68,52 +67,45 @@ pub record Sound (text : List ℕ) (t : Progress) : Type 0 where
 abbrev pub text_turn : Place → ℕ → Progress
 text_turn p n = record { place = p; mode = Chars; count = n }
 
-abbrev pub ClosedBehind : List ℕ → ℕ → End → Type 0
-ClosedBehind text at (Closed n p) = Stands text p × (at < p.at) × (n ≤ 3 * p.at)
-ClosedBehind text at (Refused f) = Unit {0}
+-- a text that ends behind an offset: at most three bytes of it for each that was read
+pub record ClosedBehind (text : List ℕ) (at : ℕ) (w : Written) : Type 0 where
+  pub stands : Stands text w.place
+  pub onward : at < w.place.at
+  pub few : w.count ≤ 3 * w.place.at
 
-abbrev pub Further : List ℕ → ℕ → Turned → Type 0
-Further text at (Goes t) = Sound text t × (at < t.place.at)
-Further text at (Ends e) = ClosedBehind text at e
+abbrev pub Further : List ℕ → ℕ → Result Turned Refusal → Type 0
+Further text at (Ok (Goes t)) = Sound text t × (at < t.place.at)
+Further text at (Ok (Closes w)) = ClosedBehind text at w
+Further text at (Err f) = Unit {0}
 
 -- what a turn takes
 abbrev pub turn_of : List ℕ → Quote → Progress → Stretch
 turn_of text q t = turn_stretch (quote_of q) (mode_of text t.place.at t.mode) t.place.mark (chars (drop t.place.at text))
 
 -- where it goes on, refused or not behind it
-abbrev pub Leads : List ℕ → Stretch → Turned → Type 0
-Leads text d (Goes u) = (mode_of text u.place.at u.mode ≡ d.mode) × (view text u.place ≡ d.place)
-Leads text d (Ends e) = Unit {0}
+abbrev pub Leads : List ℕ → Stretch → Result Turned Refusal → Type 0
+Leads text d (Ok (Goes u)) = (mode_of text u.place.at u.mode ≡ d.mode) × (view text u.place ≡ d.place)
+Leads text d (Ok (Closes w)) = Unit {0}
+Leads text d (Err f) = Unit {0}
 
--- its text is written from n on; a refusal leaves the lent bytes all zero
-abbrev pub TurnLeaves : List ℕ → ℕ → List ℕ → List ℕ → Turned → Type 0
-TurnLeaves before n after t (Goes u) = Puts before n after u.count t
-TurnLeaves before n after t (Ends (Closed k p)) = Puts before n after k t
-TurnLeaves before n after t (Ends (Refused f)) = after ≡ replicate (length before) 0
+-- its text is written from n on; of the bytes that a refusal leaves it tells only how many they are
+abbrev pub TurnLeaves : List ℕ → ℕ → List ℕ → List ℕ → Result Turned Refusal → Type 0
+TurnLeaves before n after t (Ok (Goes u)) = Puts before n after u.count t
+TurnLeaves before n after t (Ok (Closes w)) = Puts before n after w.count t
+TurnLeaves before n after t (Err f) = length after ≡ length before
 
 -- the contract of a turn
-pub record Advances (text : List ℕ) (q : Quote) (before after : List ℕ) (t : Progress) (r : Turned) : Type 0 where
+pub record Advances (text : List ℕ) (q : Quote) (before after : List ℕ) (t : Progress) (r : Result Turned Refusal) : Type 0 where
   pub same : to_write text q before t ≡ led_to text q after r
   pub leaves : TurnLeaves before t.count after (turn_of text q t).text r
   pub leads : Leads text (turn_of text q t) r
   pub onward : Further text t.place.at r
 
--- an escape's refusal; 0: none
-unfoldable pub number_of : Escape → ℕ
-number_of (escape.One c p) = 0
-number_of (escape.Refused f) = f.number
-
--- the lent bytes behind a turn that writes nothing
-unfoldable pub swept : List ℕ → Turned → List ℕ
-swept before (Goes t) = before
-swept before (Ends (Closed n p)) = before
-swept before (Ends (Refused f)) = replicate (length before) 0
-
 -- over the blank c. 36: a tab as indentation, after a break
-abbrev pub blank_turned : Quote → Progress → ℕ → Turned
+abbrev pub blank_turned : Quote → Progress → ℕ → Result Turned Refusal
 blank_turned q t c =
-    pick (behind_break t.mode && eqb c tab && ltb (edge_of t.place.mark) q.indent) (Ends (Refused (record { number = 36; mark = t.place.mark })))
-    (Goes (record { place = past t.place 1 (along t.place.mark); mode = blank_mode t.place.at t.mode; count = t.count }))
+    pick (behind_break t.mode && eqb c tab && ltb (edge_of t.place.mark) q.indent) (Err (record { number = 36; mark = t.place.mark }))
+    (Ok (Goes (record { place = past t.place 1 (along t.place.mark); mode = blank_mode t.place.at t.mode; count = t.count })))
 
 -- over a break of n characters
 abbrev pub break_turned : ℕ → Progress → Turned
@@ -127,13 +119,13 @@ pub record TextAt (text : List ℕ) (at : ℕ) : Type 0 where
   pub no_blank : is_blank char ≡ false
   pub no_break : is_break char ≡ false
 
--- a refusal leaves the lent bytes all zero; else what they hold is told by what is written
-abbrev pub EndLeaves : List ℕ → List ℕ → End → Type 0
-EndLeaves before after (Closed n p) = length after ≡ length before
-EndLeaves before after (Refused f) = after ≡ replicate (length before) 0
+-- the text that was read ends behind the quote; refused or not
+abbrev pub RunBehind : List ℕ → Result Written Refusal → Type 0
+RunBehind text (Ok w) = ClosedBehind text 0 w
+RunBehind text (Err f) = Unit {0}
 
--- the contract of the whole run, from behind the opening quote
-pub record RunEnds (text : List ℕ) (q : Quote) (before after : List ℕ) (e : End) : Type 0 where
+-- the contract of the whole run, from behind the opening quote; what the bytes hold where it closes is told by what is written
+pub record RunEnds (text : List ℕ) (q : Quote) (before after : List ℕ) (e : Result Written Refusal) : Type 0 where
   pub same : written before 0 (quotes.quoted_run (quote_of q) quotes.chars_of 0 (along q.start) (chars (drop 1 text))) ≡ ended text after e
-  pub leaves : EndLeaves before after e
-  pub behind : ClosedBehind text 0 e
+  pub kept : length after ≡ length before
+  pub behind : RunBehind text e

@@ -1,6 +1,7 @@
 -- What code keeps back, seen as the definition's mode.
-use Rattle.std.specs.Prelude.{◌+◌, ◌-◌, ◌≤◌, ℕ, Bool, false, not, true, List, ◌≡◌, eqb, ltb}
+use Rattle.std.specs.Prelude.{◌+◌, ◌-◌, ◌≤◌, ℕ, Bool, false, not, true, List, Result, Ok, Err, ◌≡◌, eqb, ltb}
 use Rattle.yaml_text.specs.declared.Mark.{Mark}
+use Rattle.yaml_text.specs.declared.Refusal.{Refusal}
 use Rattle.yaml_text.specs.Class.{peek}
 use Rattle.yaml_text.specs.Mark.{edge_of, is_marker}
 use Rattle.yaml_text.specs.Pick.{pick}
@@ -68,12 +69,13 @@ held_against (Folded k) quote = true
 held_against Escaped quote = not quote
 held_against (Joined k) quote = true
 
--- 33, 35, or 0: neither
-unfoldable pub line_number : definition.Quote → Mode → Mark → List ℕ → ℕ
-line_number q mode m cs =
+-- 33, 35
+unfoldable pub line_held : definition.Quote → Mode → Mark → List ℕ → Result (Unit {0}) Refusal
+line_held q mode m cs =
     pick (held_against mode (eqb (peek cs 0) (quote_char q)))
-    (pick (is_marker m cs) 33 (pick (ltb (edge_of m) q.indent) 35 0))
-    0
+    (pick (is_marker m cs) (Err (record { number = 33; mark = q.start }))
+    (pick (ltb (edge_of m) q.indent) (Err (record { number = 35; mark = q.start })) (Ok tt)))
+    (Ok tt)
 
 -- what is kept back at an offset was stored from n on, and the next byte goes to r
 pub record PutsKept (text : List ℕ) (at : ℕ) (mode : Mode) (n : ℕ) (before after : List ℕ) (r : ℕ) : Type 0 where

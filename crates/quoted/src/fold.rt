@@ -20,56 +20,47 @@ pub enum Mode {
     Joined { breaks: u32 },
 }
 
-// Behind a blank at a place.
-pub fn after_blank(mode: Mode, at: usize) -> Mode
-    ensures { result ≡ blank_mode at mode }
-{
-    match mode {
-        Mode::Chars => Mode::Blanks { from: at },
-        Mode::Blanks { from: _ } => mode,
-        Mode::Folded { more: _ } => mode,
-        Mode::Escaped => Mode::Joined { breaks: 0 },
-        Mode::Joined { breaks: _ } => mode,
+impl Mode {
+    // Behind a blank at a place.
+    pub fn after_blank(self, at: usize) -> Mode
+        ensures { result ≡ blank_mode at self }
+    {
+        match self {
+            Mode::Chars => Mode::Blanks { from: at },
+            Mode::Escaped => Mode::Joined { breaks: 0 },
+            _ => self,
+        }
     }
-}
 
-// Behind a break: blanks before it go.
-pub fn after_break(mode: Mode) -> Mode
-    requires { owed 0 mode < 2 ^ 31 }
-    ensures { result ≡ break_mode mode }
-{
-    match mode {
-        Mode::Chars => Mode::Folded { more: 0 },
-        Mode::Blanks { from: _ } => Mode::Folded { more: 0 },
-        Mode::Folded { more } => Mode::Folded { more: more + 1 },
-        Mode::Escaped => Mode::Joined { breaks: 1 },
-        Mode::Joined { breaks } => Mode::Joined { breaks: breaks + 1 },
+    // Behind a break: blanks before it go.
+    pub fn after_break(self) -> Mode
+        requires { owed 0 self < 2 ^ 31 }
+        ensures { result ≡ break_mode self }
+    {
+        match self {
+            Mode::Chars | Mode::Blanks { from: _ } => Mode::Folded { more: 0 },
+            Mode::Folded { more } => Mode::Folded { more: more + 1 },
+            Mode::Escaped => Mode::Joined { breaks: 1 },
+            Mode::Joined { breaks } => Mode::Joined { breaks: breaks + 1 },
+        }
     }
-}
 
-// Whether a break came before, and no text since.
-pub fn is_broken(mode: Mode) -> bool
-    ensures { result ≡ behind_break mode }
-{
-    match mode {
-        Mode::Chars => false,
-        Mode::Blanks { from: _ } => false,
-        Mode::Folded { more: _ } => true,
-        Mode::Escaped => true,
-        Mode::Joined { breaks: _ } => true,
+    // Whether a break came before, and no text since.
+    pub fn is_broken(self) -> bool
+        ensures { result ≡ behind_break self }
+    {
+        !matches!(self, Mode::Chars | Mode::Blanks { from: _ })
     }
-}
 
-// Whether text here is held against a document marker and the indent. quote: it is the closing quote.
-pub fn is_checked(mode: Mode, quote: bool) -> bool
-    ensures { result ≡ held_against mode quote }
-{
-    match mode {
-        Mode::Chars => false,
-        Mode::Blanks { from: _ } => true,
-        Mode::Folded { more: _ } => true,
-        Mode::Escaped => !quote,
-        Mode::Joined { breaks: _ } => true,
+    // Whether text here is held against a document marker and the indent. quote: it is the closing quote.
+    pub fn is_checked(self, quote: bool) -> bool
+        ensures { result ≡ held_against self quote }
+    {
+        match self {
+            Mode::Chars => false,
+            Mode::Escaped => !quote,
+            _ => true,
+        }
     }
 }
 
@@ -79,13 +70,12 @@ pub fn put_kept(text: &[u8], at: usize, mode: Mode, n: usize, out: &mut [u8]) ->
     ensures { PutsKept text.now at mode n out.old out.new result }
 {
     match mode {
-        Mode::Chars => n,
+        Mode::Chars | Mode::Escaped => n,
         Mode::Blanks { from } => {
             copy(out, n, &text[from..at]);
             n + (at - from)
         }
         Mode::Folded { more } => put_fold(out, n, more),
-        Mode::Escaped => n,
         Mode::Joined { breaks } => put_breaks(out, n, breaks),
     }
 }

@@ -2,10 +2,9 @@
 #![tactic(auto)]
 
 ghost use Rattle.std.specs.Prelude.{◌*◌, ◌<◌, ◌^◌, ◌≤◌, ◌≡◌, length};
-ghost use Rattle.yaml_text.specs.Pick.{pick};
-ghost use Rattle.yaml_lexeme.specs.declared.Style.TheVariants.{DoubleQuoted, SingleQuoted};
 ghost use Rattle.yaml_lexeme.specs.Quoted.{fits_after, scan_flow_scalar};
 ghost use Rattle.chars.specs.View.{Stands, view};
+ghost use Rattle.reading.specs.Answers.{Reads};
 ghost use Rattle.reading.specs.Reading.{Indicated, Lexes, first_at};
 ghost use Rattle.quoted.specs.After.{Follows, held_after};
 ghost use Rattle.quoted.specs.Advance.{RunEnds, quote_of};
@@ -14,35 +13,35 @@ mod fold;
 mod turns;
 
 use crate::fold::Mode;
-use crate::turns::{End, Progress, Quote, Turned, quoted_turn};
+use crate::turns::{Progress, Quote, Turned, quoted_turn};
 use chars::class::is_breakz;
 use chars::code::{CLOSE_BRACE, CLOSE_BRACKET, COLON, COMMA};
 use chars::mark::Place;
-use reading::{Reached, Reading, clear_refused, got, refuse, text_at};
+use chars::pick::pick;
+use chars::refuse::refuse;
+use reading::{Lexeme, Written, clear_refused, text_at};
 use utf8::look;
 use yaml_lexeme::{Kind, Style};
-use yaml_text::Mark;
+use yaml_text::{Mark, Refusal};
 
 // The scalar's text from behind its opening quote.
-fn quoted_run(text: &[u8], q: Quote, out: &mut [u8]) -> End
+fn quoted_run(text: &[u8], q: Quote, out: &mut [u8]) -> Result<Written, Refusal>
     requires { Stands text.now (first_at q.start) × (1 ≤ length text.now) }
     ensures { RunEnds text.now q out.old out.new result }
 {
-    let start = q.start;
-    let first = Place { at: 0, mark: start };
+    let first = Place::first_at(q.start);
     let mut t = Progress {
+        count: 0,
         place: first.skip_blank(),
         mode: Mode::Chars,
-        count: 0,
     };
     loop {
-        let r = quoted_turn(text, q, t, out);
-        match r {
+        match quoted_turn(text, q, t, out)? {
             Turned::Goes(next) => {
                 t = next;
             }
-            Turned::Ends(e) => {
-                return e;
+            Turned::Closes(w) => {
+                return Ok(w);
             }
         }
     }
@@ -57,41 +56,31 @@ fn fits_after(flow: bool, same: bool, c: u32) -> bool
         | (c == COLON) & (flow | same)
 }
 
-fn quoted_style(single: bool) -> Style
-    ensures { result ≡ pick single SingleQuoted DoubleQuoted }
+// What follows the closing quote, behind the text w.
+fn after_quote(text: &[u8], q: Quote, flow: bool, w: Written, used: u32) -> Result<Lexeme, Refusal>
+    requires { Stands text.now w.place × (1 ≤ w.place.at) × (w.count ≤ 3 * w.place.at) }
+    ensures { Follows text.now result (held_after flow (quote_of q) used w.count (view text.now w.place)) }
 {
-    if single {
-        return Style::SingleQuoted;
+    let e = gaps::blanks_and_comment(text, w.place)?;
+    let m = e.mark;
+    let start = q.start;
+    if !fits_after(flow, start.line == m.line, look(text, e.at)) {
+        return refuse(40, m);
     }
-    Style::DoubleQuoted
+    let kind = Kind::Scalar {
+        style: pick(q.single, Style::SingleQuoted, Style::DoubleQuoted),
+        text: text_at(used, w.count),
+    };
+    Ok(Lexeme::new(kind, start, m, e))
 }
 
-// What follows the closing quote, of a text of n bytes.
-fn after_quote(text: &[u8], q: Quote, flow: bool, p: Place, used: u32, n: usize) -> Reading
-    requires { Stands text.now p × (1 ≤ p.at) × (n ≤ 3 * p.at) }
-    ensures { Follows text.now result (held_after flow (quote_of q) used n (view text.now p)) }
+// The scalar with what follows it; a refusal leaves in the lent bytes what was written before it.
+fn read_scalar(text: &[u8], q: Quote, flow: bool, used: u32, out: &mut [u8]) -> Result<Lexeme, Refusal>
+    requires { Indicated text.now q.start used }
+    ensures { Reads text.now out.old out.new used result (scan_flow_scalar flow q.single q.indent (view text.now (first_at q.start))) }
 {
-    let r = gaps::blanks_and_comment(text, p);
-    match r {
-        Reached::Refused(f) => Reading::Refused(f),
-        Reached::To(e) => {
-            let at = e.at;
-            let m = e.mark;
-            let start = q.start;
-            if fits_after(flow, start.line == m.line, look(text, at)) {
-                return got(
-                    Kind::Scalar {
-                        style: quoted_style(q.single),
-                        text: text_at(used, n),
-                    },
-                    start,
-                    m,
-                    e,
-                );
-            }
-            refuse(40, m)
-        }
-    }
+    let w = quoted_run(text, q, out)?;
+    after_quote(text, q, flow, w, used)
 }
 
 // From its opening quote; the span takes in the blanks and comment behind it.
@@ -103,20 +92,14 @@ pub fn scan_flow_scalar(
     indent: u32,
     used: u32,
     out: &mut [u8],
-) -> Reading
+) -> Result<Lexeme, Refusal>
     requires { Indicated text.now start used × (indent < 2 ^ 21) }
     ensures { Lexes text.now out.old out.new used result (scan_flow_scalar flow single indent (view text.now (first_at start))) }
 {
     let q = Quote {
-        single: single,
-        indent: indent,
-        start: start,
+        single,
+        indent,
+        start,
     };
-    let r = quoted_run(text, q, out);
-    match r {
-        End::Closed { place, count } => {
-            clear_refused(after_quote(text, q, flow, place, used, count), out)
-        }
-        End::Refused(f) => Reading::Refused(f),
-    }
+    clear_refused(read_scalar(text, q, flow, used, out), out)
 }

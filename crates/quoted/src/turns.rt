@@ -1,24 +1,24 @@
 // One turn over a quoted scalar: a blank, a break, a run of characters, an escape or a quote.
-ghost use Rattle.std.specs.Prelude.{◌+◌, ◌<◌, ◌^◌, ◌≤◌, false, ◌≡◌, drop, get_or, length, replicate};
+ghost use Rattle.std.specs.Prelude.{◌+◌, ◌<◌, ◌^◌, ◌≤◌, false, ◌≡◌, drop, get_or, length};
 ghost use Rattle.yaml_text.specs.Char.{backslash};
 ghost use Rattle.yaml_text.specs.Mark.{break_length};
 ghost use Rattle.yaml_text.specs.Utf8.{chars};
 ghost use Rattle.chars.specs.Bytes.{CharAt};
 ghost use Rattle.chars.specs.Parts.{Spans};
 ghost use Rattle.chars.specs.View.{Small, Stands};
-ghost use Rattle.quoted.specs.declared.turns.End.TheVariants.{Refused};
-ghost use Rattle.quoted.specs.declared.turns.Turned.TheVariants.{Ends, Goes};
-ghost use Rattle.quoted.specs.Modes.{line_number, owed};
+ghost use Rattle.quoted.specs.declared.turns.Turned.TheVariants.{Goes};
+ghost use Rattle.quoted.specs.Modes.{line_held, owed};
 ghost use Rattle.quoted.specs.Texts.{inner, ordinary, quote_by, special, words};
-ghost use Rattle.quoted.specs.Advance.{Advances, Sound, TextAt, blank_turned, break_turned, number_of, quote_of, swept, text_turn};
+ghost use Rattle.quoted.specs.Advance.{Advances, Sound, TextAt, blank_turned, break_turned, quote_of, text_turn};
 
-use crate::fold::{Mode, after_blank, after_break, is_broken, is_checked, put_kept};
+use crate::fold::{Mode, put_kept};
 use chars::class::{is_blank, is_break};
 use chars::code::{BACKSLASH, TAB};
 use chars::mark::{Place, break_length, is_marker};
-use escapes::answer::Escape;
+use chars::pick::pick;
+use chars::refuse::refuse;
 use escapes::escape::escape;
-use reading::clear;
+use reading::Written;
 use rooms::{copy, put, put_char};
 use utf8::{byte, char_at};
 use yaml_text::{Decoded, Mark, Refusal};
@@ -32,7 +32,8 @@ pub struct Quote {
 }
 
 // The state of the reading: how many bytes of text so far, where, what came before.
-// The count and the place stand first here and in `End`, in the same order, so that a turn's answer is kept in registers: else each goes through memory.
+// The count and the place stand first here and in `Written`, in the same order, so that a turn's answer is kept in registers: else each goes through
+// memory.
 #[derive(Clone, Copy)]
 pub struct Progress {
     pub count: usize,
@@ -40,53 +41,31 @@ pub struct Progress {
     pub mode: Mode,
 }
 
-// The bytes of the text and the place behind the closing quote, or a refusal.
-#[derive(Clone, Copy)]
-pub enum End {
-    Closed { count: usize, place: Place },
-    Refused(Refusal),
-}
-
-// A turn leads to the next one, or to the scalar's end.
+// A turn leads to the next one, or to the scalar's end: its text, and the place behind the closing quote.
 #[derive(Clone, Copy)]
 pub enum Turned {
     Goes(Progress),
-    Ends(End),
+    Closes(Written),
 }
 
-fn goes(p: Place, mode: Mode, n: usize) -> Turned
-    ensures { result ≡ Goes (record { place = p; mode = mode; count = n }) }
+fn goes(place: Place, mode: Mode, count: usize) -> Turned
+    ensures { result ≡ Goes (record { place = place; mode = mode; count = count }) }
 {
-    Turned::Goes(Progress {
-        place: p,
-        mode: mode,
-        count: n,
-    })
-}
-
-// A refusal, which leaves the lent bytes all zero.
-fn wrong(number: u32, mark: Mark, out: &mut [u8]) -> Turned
-    ensures { (result ≡ Ends (Refused (record { number = number; mark = mark }))) × (out.new ≡ replicate (length out.old) 0) }
-{
-    clear(out);
-    Turned::Ends(End::Refused(Refusal {
-        number: number,
-        mark: mark,
-    }))
+    Turned::Goes(Progress { count, place, mode })
 }
 
 // Over the blank c. 36: a tab as indentation, after a break.
-fn on_blank(q: Quote, t: Progress, c: u32, out: &mut [u8]) -> Turned
+fn on_blank(q: Quote, t: Progress, c: u32) -> Result<Turned, Refusal>
     requires { Small t.place }
-    ensures { (result ≡ blank_turned q t c) × (out.new ≡ swept out.old result) }
+    ensures { result ≡ blank_turned q t c }
 {
     let p = t.place;
     let m = p.mark;
     let mode = t.mode;
-    if is_broken(mode) & (c == TAB) & (m.col + 1 < q.indent) {
-        return wrong(36, m, out);
+    if mode.is_broken() & (c == TAB) & (m.col + 1 < q.indent) {
+        return refuse(36, m);
     }
-    goes(p.skip_blank(), after_blank(mode, p.at), t.count)
+    Ok(goes(p.skip_blank(), mode.after_blank(p.at), t.count))
 }
 
 // Over the break here.
@@ -95,11 +74,10 @@ fn on_break(text: &[u8], t: Progress) -> Turned
     ensures { result ≡ break_turned (break_length (chars (drop t.place.at text.now))) t }
 {
     let p = t.place;
-    let at = p.at;
     let mode = t.mode;
     goes(
-        p.skip_linebreak(break_length(text, at)),
-        after_break(mode),
+        p.skip_linebreak(break_length(text, p.at)),
+        mode.after_break(),
         t.count,
     )
 }
@@ -107,37 +85,27 @@ fn on_break(text: &[u8], t: Progress) -> Turned
 fn quote_char(single: bool) -> u8
     ensures { result ≡ quote_by single }
 {
-    if single { b'\'' } else { b'"' }
+    pick(single, b'\'', b'"')
 }
 
 // A quote: a single one that stands twice is text.
 fn on_quote(text: &[u8], q: Quote, p: Place, n: usize, out: &mut [u8]) -> Turned
     requires { Sound text.now (text_turn p n) × CharAt text.now p.at (quote_by q.single) 1 }
-    ensures { Advances text.now q out.old out.new (text_turn p n) result }
+    ensures { Advances text.now q out.old out.new (text_turn p n) (Ok result) }
 {
     let at = p.at;
     if q.single & (byte(text, at + 1) == b'\'') {
         put(out, n, b'\'');
         return goes(p.skip_n_non_blank(2), Mode::Chars, n + 1);
     }
-    Turned::Ends(End::Closed {
-        place: p.skip_blank(),
+    Turned::Closes(Written {
         count: n,
+        place: p.skip_blank(),
     })
 }
 
-// 37 to 39; 0: it is no refusal.
-fn refusal_number(e: Escape) -> u32
-    ensures { result ≡ number_of e }
-{
-    let Escape::Refused(r) = e else {
-        return 0;
-    };
-    r.number
-}
-
-// A backslash: an escaped break, or an escape.
-fn on_backslash(text: &[u8], q: Quote, p: Place, n: usize, out: &mut [u8]) -> Turned
+// A backslash: an escaped break, or an escape (37 to 39).
+fn on_backslash(text: &[u8], q: Quote, p: Place, n: usize, out: &mut [u8]) -> Result<Turned, Refusal>
     requires { Sound text.now (text_turn p n) × CharAt text.now p.at backslash 1 × (q.single ≡ false) }
     ensures { Advances text.now q out.old out.new (text_turn p n) result }
 {
@@ -145,15 +113,11 @@ fn on_backslash(text: &[u8], q: Quote, p: Place, n: usize, out: &mut [u8]) -> Tu
     let k = break_length(text, at + 1);
     if 0 < k {
         let e = p.skip_blank();
-        return goes(e.skip_linebreak(k), Mode::Escaped, n);
+        return Ok(goes(e.skip_linebreak(k), Mode::Escaped, n));
     }
-    let start = q.start;
-    let e = escape(text, p, start);
-    let Escape::One(c, next) = e else {
-        return wrong(refusal_number(e), start, out);
-    };
-    let m = put_char(out, n, c);
-    goes(next, Mode::Chars, m)
+    let e = escape(text, p, q.start)?;
+    let m = put_char(out, n, e.code);
+    Ok(goes(e.next, Mode::Chars, m))
 }
 
 // Most characters of a text by far: no blank, break, quote or backslash.
@@ -208,14 +172,14 @@ fn text_end(text: &[u8], start: Place, single: bool, spaces: bool) -> Place
 }
 
 // A character of the text that nothing is kept back before.
-fn on_char(text: &[u8], q: Quote, p: Place, n: usize, out: &mut [u8]) -> Turned
+fn on_char(text: &[u8], q: Quote, p: Place, n: usize, out: &mut [u8]) -> Result<Turned, Refusal>
     requires { Sound text.now (text_turn p n) × TextAt text.now p.at }
     ensures { Advances text.now q out.old out.new (text_turn p n) result }
 {
     let at = p.at;
     let c = byte(text, at);
     if c == quote_char(q.single) {
-        return on_quote(text, q, p, n, out);
+        return Ok(on_quote(text, q, p, n, out));
     }
     if (c == b'\\') & !q.single {
         return on_backslash(text, q, p, n, out);
@@ -224,60 +188,52 @@ fn on_char(text: &[u8], q: Quote, p: Place, n: usize, out: &mut [u8]) -> Turned
     let e = text_end(text, p, q.single, q.indent <= p.mark.col + 1);
     let to = e.at;
     copy(out, n, &text[at..to]);
-    goes(e, Mode::Chars, n + (to - at))
+    Ok(goes(e, Mode::Chars, n + (to - at)))
 }
 
-// 33: a document marker; 35: a column below the indent; 0: neither, or the text here is not held against them.
-fn line_refusal(text: &[u8], q: Quote, p: Place, mode: Mode) -> u32
+// Whether the text here may stand in its line, where it is held against that. 33: a document marker; 35: a column below the indent.
+fn check_line(text: &[u8], q: Quote, p: Place, mode: Mode) -> Result<(), Refusal>
     requires { Small p }
-    ensures { result ≡ line_number (quote_of q) mode p.mark (chars (drop p.at text.now)) }
+    ensures { result ≡ line_held (quote_of q) mode p.mark (chars (drop p.at text.now)) }
 {
-    let at = p.at;
-    if is_checked(mode, byte(text, at) == quote_char(q.single)) {
+    if mode.is_checked(byte(text, p.at) == quote_char(q.single)) {
         if is_marker(text, p) {
-            return 33;
+            return refuse(33, q.start);
         }
         if p.mark.col + 1 < q.indent {
-            return 35;
+            return refuse(35, q.start);
         }
     }
-    0
+    Ok(())
 }
 
 // A character of the text.
-fn on_text(text: &[u8], q: Quote, t: Progress, out: &mut [u8]) -> Turned
+fn on_text(text: &[u8], q: Quote, t: Progress, out: &mut [u8]) -> Result<Turned, Refusal>
     requires { Sound text.now t × TextAt text.now t.place.at }
     ensures { Advances text.now q out.old out.new t result }
 {
     let p = t.place;
-    let at = p.at;
     let mode = t.mode;
-    let k = line_refusal(text, q, p, mode);
-    if k != 0 {
-        let start = q.start;
-        return wrong(k, start, out);
-    }
-    let n = put_kept(text, at, mode, t.count, out);
+    check_line(text, q, p, mode)?;
+    let n = put_kept(text, p.at, mode, t.count, out);
     on_char(text, q, p, n, out)
 }
 
 // One turn. 34: the end.
-pub fn quoted_turn(text: &[u8], q: Quote, t: Progress, out: &mut [u8]) -> Turned
+pub fn quoted_turn(text: &[u8], q: Quote, t: Progress, out: &mut [u8]) -> Result<Turned, Refusal>
     requires { Sound text.now t }
     ensures { Advances text.now q out.old out.new t result }
 {
     let p = t.place;
-    let at = p.at;
-    let d = char_at(text, at);
+    let d = char_at(text, p.at);
     let Decoded::Char { code, len: _ } = d else {
-        let start = q.start;
-        return wrong(34, start, out);
+        return refuse(34, q.start);
     };
     if is_blank(code) {
-        return on_blank(q, t, code, out);
+        return on_blank(q, t, code);
     }
     if is_break(code) {
-        return on_break(text, t);
+        return Ok(on_break(text, t));
     }
     on_text(text, q, t, out)
 }
