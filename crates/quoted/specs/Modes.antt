@@ -1,5 +1,5 @@
 -- What code keeps back, seen as the definition's mode.
-use Rattle.std.specs.Prelude.{◌+◌, ◌-◌, ◌≤◌, ℕ, Bool, false, not, true, List, Result, Ok, Err, ◌≡◌, eqb, ltb}
+use Rattle.std.specs.Prelude.{◌+◌, ◌-◌, ◌≤◌, ℕ, Bool, false, not, true, List, Result, Ok, Err, ⊤, ◌≡◌, eqb, ltb}
 use Rattle.yaml_text.specs.declared.Mark.{Mark}
 use Rattle.yaml_text.specs.declared.Refusal.{Refusal}
 use Rattle.yaml_text.specs.Class.{peek}
@@ -70,7 +70,7 @@ held_against Escaped quote = not quote
 held_against (Joined k) quote = true
 
 -- 33, 35
-unfoldable pub line_held : definition.Quote → Mode → Mark → List ℕ → Result (Unit {0}) Refusal
+unfoldable pub line_held : definition.Quote → Mode → Mark → List ℕ → Result ⊤ Refusal
 line_held q mode m cs =
     pick (held_against mode (eqb (peek cs 0) (quote_char q)))
     (pick (is_marker m cs) (Err (record { number = 33; mark = q.start }))
