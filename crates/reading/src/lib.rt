@@ -83,12 +83,11 @@ pub fn put_breaks(out: &mut [u8], n: usize, k: u32) -> usize
     requires { n < 2 ^ 62 }
     ensures { (out.new ≡ sets out.old n (replicate k 10)) × (result ≡ n + k) }
 {
-    let mut e = n;
-    for _ in 0..k {
-        rooms::put(out, e, b'\n');
-        e += 1;
+    let k = k as usize;
+    for i in 0..k {
+        rooms::put(out, n + i, b'\n');
     }
-    e
+    n + k
 }
 
 // Stores what a break and k more become where lines are folded, from n on; where the next byte goes.
