@@ -1,5 +1,6 @@
 -- Entries that come: the code stores one word, below the frames and above the entries that stay, where the definition's stack has one entry more.
 use Prim.Native.Nat.{◌+◌, ◌<◌, ◌≤◌, ℕ}
+use Rattle.std.specs.Prelude.{Ok, Err}
 use mathlib.Core.Bool.{Bool, false, true}
 use mathlib.Core.List.{List, ◌∷◌}
 use mathlib.Core.Path.{◌∙◌, ◌≡◌, ap, refl, sym}
@@ -18,8 +19,6 @@ use Rattle.stacks.specs.Stack.{entry_words, stack_words}
 use Rattle.stacks.specs.Indent.{Low, Lowers, entries_of, indents_seen, most_at, word_of}
 use Rattle.stacks.specs.Roll.{Rolls, Stacks, full_at, one_more, rolled_words, stored}
 use Rattle.stacks.specs.declared.indent.Indents.{Indents}
-use Rattle.stacks.specs.declared.indent.Stacked.TheVariants as stacked_as
-use Rattle.stacks.specs.declared.indent.Rolled.TheVariants as rolled_as
 use Rattle.stacks.proofs.Entries.{entries_length, entries_push, entries_set, low_below}
 use Rattle.stacks.proofs.Frames.{frames_stay, frames_stay_same}
 
@@ -36,7 +35,7 @@ unfolding stack
 stack_refused room m i ends s h = rw (h, stack)
 
 module _ (a : List ℕ) (room : ℕ) (m : Mark) (indent : ℕ) (ends : Bool) (i : Indents) where
-  pub stack_full : room ≤ i.depth → Stacks a a room m indent ends i (stacked_as.Refused (full_at m))
+  pub stack_full : room ≤ i.depth → Stacks a a room m indent ends i (Err (full_at m))
   stack_full h =
       let t : ltb (length (entries_of a i.depth)) room ≡ false = rw (entries_length a i.depth) (le-ltb i.depth room h) in
       record {
@@ -48,7 +47,7 @@ module _ (a : List ℕ) (room : ℕ) (m : Mark) (indent : ℕ) (ends : Bool) (i 
       }
 
   pub stack_got : room ≤ entry_words → stack_words ≤ length a → i.depth < room → i.indent ≤ most_at i.depth → indent ≤ most_at (i.depth + 1)
-      → Stacks a (set a i.depth (word_of i.indent ends)) room m indent ends i (stacked_as.Got (one_more indent i))
+      → Stacks a (set a i.depth (word_of i.indent ends)) room m indent ends i (Ok (one_more indent i))
   stack_got g w h l n =
       let e = entries_length a i.depth in
       let t : ltb (length (entries_of a i.depth)) room ≡ true = rw e (lt-ltb i.depth room h) in
@@ -74,7 +73,7 @@ module _ (room : ℕ) (m : Mark) (edge : ℕ) (s d : definition.Indents) (e : dr
   roll_stays h = rw (e, h, roll, e)
 
 module _ {a : List ℕ} {edge : ℕ} {i d : Indents} (room : ℕ) (m : Mark) (w : Lowers a i d (drop_for edge i.indent (entries_of a i.depth))) where
-  pub rolled_stays : Low room i → edge ≤ d.indent → Rolls a a room m edge i (rolled_as.Got false d)
+  pub rolled_stays : Low room i → edge ≤ d.indent → Rolls a a room m edge i (Ok (record { starts = false; indents = d }))
   rolled_stays l h =
       let t = le-ltb d.indent edge h in
       record {
@@ -92,11 +91,11 @@ module _ {a : List ℕ} {edge : ℕ} {i d : Indents} (room : ℕ) (m : Mark) (w 
     words : {e : List ℕ} → e ≡ stored room true a (indents_seen a d) → e ≡ rolled_words room edge a (indents_seen a i)
     words q = rw (← w.same, lt-ltb d.indent edge h) q
 
-    pub rolled_full : {e : List ℕ} {f : Refusal} → Stacks a e room m edge true d (stacked_as.Refused f) → Rolls a e room m edge i (rolled_as.Refused f)
+    pub rolled_full : {e : List ℕ} {f : Refusal} → Stacks a e room m edge true d (Err f) → Rolls a e room m edge i (Err f)
     unfolding ◌>>=◌
     rolled_full s = record { same = on s.same; words = words s.words; frames = s.frames; low = tt }
 
-    pub rolled_starts : {e : List ℕ} {k : Indents} → Stacks a e room m edge true d (stacked_as.Got k) → Rolls a e room m edge i (rolled_as.Got true k)
+    pub rolled_starts : {e : List ℕ} {k : Indents} → Stacks a e room m edge true d (Ok k) → Rolls a e room m edge i (Ok (record { starts = true; indents = k }))
     unfolding ◌>>=◌
     rolled_starts s = record {
       same = on s.same;
@@ -124,7 +123,7 @@ unfolding ◌>>=◌
 fits_on room m edge d t = rw (stack_fits room m edge true d t)
 
 module _ {a e : List ℕ} {room : ℕ} {m : Mark} {i : Indents} {f : Refusal} where
-  pub roll_kept : {edge : ℕ} → Rolls a e room m edge i (rolled_as.Refused f) → e ≡ a
+  pub roll_kept : {edge : ℕ} → Rolls a e room m edge i (Err f) → e ≡ a
   roll_kept {edge} w =
       let d = drop_for edge i.indent (entries_of a i.depth) in
       w.words

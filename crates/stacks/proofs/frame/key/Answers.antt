@@ -11,4 +11,4 @@ returns-then-k-eq0 c = let a = c.args in rw (eq-eqb (get_or a.stacks.now (frame_
 
 pub returns : goal.returns
 unfolding key_at
-returns c = let a = c.args in rw (c.at_most-col.ensures, ne_eqb (get_or a.stacks.now (frame_at a.level) 0) 0 c.if-k-eq0.false)
+returns c = let a = c.args in rw (c.min-col.ensures, ne_eqb (get_or a.stacks.now (frame_at a.level) 0) 0 c.if-k-eq0.false)

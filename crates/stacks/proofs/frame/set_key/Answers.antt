@@ -1,7 +1,6 @@
 -- Five words are stored one after the other: those of the candidate.
 use Prim.Native.Nat.{◌+◌}
 use native.Mathlib.Omega.{arith}
-use lib.ListN.{length-set}
 use Rattle.yaml_scan.specs.declared.Candidate.TheVariants.{Possible}
 use Rattle.stacks.specs.Stack.{frame_at}
 use Rattle.stacks.specs.Bit.{bit, bit_low}
@@ -12,21 +11,9 @@ use Rattle.stacks.proofs.frame.set_key.Goals as goal
 pub overflow_add-stacks : goal.overflow_add-stacks
 overflow_add-stacks c = omega (arith, bit_low c.args.required)
 
-pub bounds-stacks-at-2 : goal.bounds-stacks-at-2
-bounds-stacks-at-2 c = simp length-set (omega arith)
-
-pub bounds-stacks-at-3 : goal.bounds-stacks-at-3
-bounds-stacks-at-3 c = simp length-set (omega arith)
-
-pub bounds-stacks-at-4 : goal.bounds-stacks-at-4
-bounds-stacks-at-4 c = simp length-set (omega arith)
-
-pub bounds-stacks-at-5 : goal.bounds-stacks-at-5
-bounds-stacks-at-5 c = simp length-set (omega arith)
-
 pub returns : goal.returns
 unfolding key_words
 returns c =
     let a = c.args in let m = a.m in
-    key_stored a.stacks.now a.level (Possible a.required a.number m) c.requires.0 c.requires.1 c.requires.2
+    key_stored a.stacks.now a.level (Possible a.required a.number m) c.requires.0 (omega arith) c.requires.1
     (sets_five a.stacks.now (frame_at a.level) (1 + bit a.required) a.number m.index m.line m.col)

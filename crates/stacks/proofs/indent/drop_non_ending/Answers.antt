@@ -4,7 +4,7 @@ use Rattle.stacks.proofs.Drops.{dropped_none, dropped_stop, dropping_more, dropp
 use Rattle.stacks.proofs.indent.drop_non_ending.Goals as goal
 
 pub loop-depth-init : goal.loop-depth-init
-loop-depth-init c = dropping_start c.args.stacks.now c.args.from c.requires.0.indent
+loop-depth-init c = dropping_start c.args.stacks.now c.args.from c.requires.indent
 
 pub loop-depth-preserved : goal.loop-depth-preserved
 loop-depth-preserved c = rw c.taken_back-indent.ensures (dropping_more c.loop-depth.invariant c.loop-depth-test.true (eq-eqb _ _ c.if-stacks-depth-eq0.true))

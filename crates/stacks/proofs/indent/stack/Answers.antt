@@ -1,4 +1,5 @@
 -- Where the depth is below the limit there is room for one entry more.
+use native.Mathlib.Omega.{arith}
 use Rattle.stacks.proofs.Rolls.{stack_full, stack_got}
 use Rattle.stacks.proofs.indent.stack.Goals as goal
 
@@ -10,4 +11,4 @@ returns-then-limit-from c =
 pub returns : goal.returns
 returns c =
     let a = c.args in let p = c.push.ensures in
-    rw (p.0, p.1) (stack_got a.stacks.now a.limit a.m a.indent a.ends a.from c.requires.0 c.requires.3 c.if-limit-from.false c.requires.1 c.requires.2)
+    rw (p.0, p.1) (stack_got a.stacks.now a.limit a.m a.indent a.ends a.from c.requires.0 (omega arith) c.if-limit-from.false c.requires.1 c.requires.2)

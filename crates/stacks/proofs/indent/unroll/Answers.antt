@@ -4,7 +4,7 @@ use Rattle.stacks.proofs.Drops.{unrolled_none, unrolled_stop, unrolling_more, un
 use Rattle.stacks.proofs.indent.unroll.Goals as goal
 
 pub loop-depth-init : goal.loop-depth-init
-loop-depth-init c = unrolling_start c.args.stacks.now c.args.edge c.args.from c.requires.0.indent
+loop-depth-init c = unrolling_start c.args.stacks.now c.args.edge c.args.from c.requires.indent
 
 pub loop-depth-preserved : goal.loop-depth-preserved
 loop-depth-preserved c = rw c.taken_back-indent.ensures (unrolling_more c.loop-depth.invariant c.loop-depth-test.true (lt-ltb _ _ c.if-edge-indent.true))
