@@ -28,7 +28,7 @@ use choices::advance::{Advanced, to_next_token};
 use choices::choice::choice;
 use events::{Counts, Opening, brief_event};
 use rooms::as_word;
-use sink::{put_brief, put_entry, put_news};
+use sink::{BlockStart, PairEnd, put_brief, put_news};
 use stacks::at_most;
 use stacks::frame::key;
 use states::{Brief, Fetched, State};
@@ -113,7 +113,7 @@ fn brief_token(
     match r {
         Brief::Refused(f) => Stepped::Refused(f),
         Brief::Goes { state, pair, token } => {
-            put_brief(words, n.count - base, s.place.mark, ended, pair, token);
+            put_brief::<PairEnd>(words, n.count - base, s.place.mark, ended, pair, token);
             Stepped::On {
                 state: state.anew(),
                 counts: k.counting(brief_event(pair, Opening::FlowMappingEnd, token)),
@@ -124,7 +124,7 @@ fn brief_token(
             starts,
             token,
         } => {
-            put_entry(words, n.count - base, s.place.mark, ended, starts, token);
+            put_brief::<BlockStart>(words, n.count - base, s.place.mark, ended, starts, token);
             Stepped::On {
                 state: state.anew(),
                 counts: k.counting(brief_event(starts, Opening::BlockSequenceStart, token)),

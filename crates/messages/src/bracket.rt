@@ -5,7 +5,7 @@ use records::RECORD_WORDS;
 use records::found::token_of;
 use stream::{Next, next_token};
 use wording::bracket::{Open, no_open};
-use yaml_lexeme::{Kind, Recorded, Token};
+use yaml_lexeme::{Kind, Token};
 use yaml_text::Mark;
 
 // Room for the open brackets, innermost last: whether it is a brace, line and column of each. No more than 255 are ever open.
@@ -45,8 +45,8 @@ fn behind_token(opens: &mut [u32; OPEN_WORDS], depth: usize, t: Token) -> usize 
 fn behind_record(opens: &mut [u32; OPEN_WORDS], depth: usize, token: [u32; RECORD_WORDS]) -> usize {
     let r = token_of(&token, 0);
     match r {
-        Recorded::Found(t) => behind_token(opens, depth, t),
-        Recorded::NoToken => depth,
+        Some(t) => behind_token(opens, depth, t),
+        None => depth,
     }
 }
 

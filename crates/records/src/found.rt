@@ -2,17 +2,16 @@
 ghost use Rattle.std.specs.Prelude.{◌≡◌, drop, get_or, take};
 ghost use Rattle.yaml_text.specs.Class.{same};
 ghost use Rattle.yaml_lexeme.specs.declared.Kind.TheVariants.{ReservedDirective, Scalar, Tag, TagDirective, VersionDirective};
-ghost use Rattle.yaml_lexeme.specs.declared.Recorded.TheVariants.{NoToken};
 ghost use Rattle.yaml_lexeme.specs.Table.{looked_up};
 ghost use Rattle.yaml_lexeme.specs.Record.{record_words, scalar_rows, token_by_number, token_of, with_marks};
 
 use crate::token::record_of;
 use crate::{RECORD_WORDS, load};
-use yaml_lexeme::{Kind, Recorded, Style, Text, Token};
+use yaml_lexeme::{Kind, Style, Text, Token};
 use yaml_text::Mark;
 
 // A token of this kind, with the marks of the words w.
-fn with_marks(w: [u32; RECORD_WORDS], k: Kind) -> Recorded
+fn with_marks(w: [u32; RECORD_WORDS], k: Kind) -> Option<Token>
     ensures { result ≡ with_marks w k }
 {
     let start = Mark {
@@ -25,7 +24,7 @@ fn with_marks(w: [u32; RECORD_WORDS], k: Kind) -> Recorded
         line: w[5],
         col: w[6],
     };
-    Recorded::Found(Token {
+    Some(Token {
         kind: k,
         start: start,
         end: end,
@@ -33,39 +32,39 @@ fn with_marks(w: [u32; RECORD_WORDS], k: Kind) -> Recorded
 }
 
 // The kinds of more than one field.
-fn version_directive(w: [u32; RECORD_WORDS], major: u32, minor: u32) -> Recorded
+fn version_directive(w: [u32; RECORD_WORDS], major: u32, minor: u32) -> Option<Token>
     ensures { result ≡ with_marks w (VersionDirective major minor) }
 {
     with_marks(w, Kind::VersionDirective { major, minor })
 }
 
-fn tag_directive(w: [u32; RECORD_WORDS], handle: Text, prefix: Text) -> Recorded
+fn tag_directive(w: [u32; RECORD_WORDS], handle: Text, prefix: Text) -> Option<Token>
     ensures { result ≡ with_marks w (TagDirective handle prefix) }
 {
     with_marks(w, Kind::TagDirective { handle, prefix })
 }
 
-fn tag(w: [u32; RECORD_WORDS], handle: Text, suffix: Text) -> Recorded
+fn tag(w: [u32; RECORD_WORDS], handle: Text, suffix: Text) -> Option<Token>
     ensures { result ≡ with_marks w (Tag handle suffix) }
 {
     with_marks(w, Kind::Tag { handle, suffix })
 }
 
-fn reserved_directive(w: [u32; RECORD_WORDS], name: Text, parameters: Text) -> Recorded
+fn reserved_directive(w: [u32; RECORD_WORDS], name: Text, parameters: Text) -> Option<Token>
     ensures { result ≡ with_marks w (ReservedDirective name parameters) }
 {
     with_marks(w, Kind::ReservedDirective { name, parameters })
 }
 
-fn styled(w: [u32; RECORD_WORDS], style: Style, text: Text) -> Recorded
+fn styled(w: [u32; RECORD_WORDS], style: Style, text: Text) -> Option<Token>
     ensures { result ≡ with_marks w (Scalar style text) }
 {
     with_marks(w, Kind::Scalar { style, text })
 }
 
 // A scalar, by the number of its style.
-fn scalar(w: [u32; RECORD_WORDS], t: Text) -> Recorded
-    ensures { result ≡ looked_up NoToken (get_or w 11 0) (scalar_rows w t) }
+fn scalar(w: [u32; RECORD_WORDS], t: Text) -> Option<Token>
+    ensures { result ≡ looked_up None (get_or w 11 0) (scalar_rows w t) }
 {
     match w[11] {
         1 => styled(w, Style::Plain, t),
@@ -73,12 +72,12 @@ fn scalar(w: [u32; RECORD_WORDS], t: Text) -> Recorded
         3 => styled(w, Style::DoubleQuoted, t),
         4 => styled(w, Style::Literal, t),
         5 => styled(w, Style::Folded, t),
-        _ => Recorded::NoToken,
+        _ => None,
     }
 }
 
 // The only token whose record w can be, by the number of its kind.
-fn token_by_number(w: [u32; RECORD_WORDS]) -> Recorded
+fn token_by_number(w: [u32; RECORD_WORDS]) -> Option<Token>
     ensures { result ≡ token_by_number w }
 {
     let t = Text {
@@ -113,7 +112,7 @@ fn token_by_number(w: [u32; RECORD_WORDS]) -> Recorded
         21 => tag(w, t, u),
         22 => scalar(w, t),
         23 => reserved_directive(w, t, u),
-        _ => Recorded::NoToken,
+        _ => None,
     }
 }
 
@@ -134,28 +133,28 @@ fn same_words(a: &[u32], b: &[u32]) -> bool
 }
 
 // The token whose record w is.
-fn token_in(w: [u32; RECORD_WORDS]) -> Recorded
+fn token_in(w: [u32; RECORD_WORDS]) -> Option<Token>
     ensures { result ≡ token_of w }
 {
     let r = token_by_number(w);
-    let Recorded::Found(t) = r else {
-        return Recorded::NoToken;
+    let Some(t) = r else {
+        return None;
     };
     if same_words(&record_of(t), &w) {
-        return Recorded::Found(t);
+        return Some(t);
     }
-    Recorded::NoToken
+    None
 }
 
 // The token of the record that begins at `at`: for whoever reads records back.
-pub fn token_of(words: &[u32], at: usize) -> Recorded
+pub fn token_of(words: &[u32], at: usize) -> Option<Token>
     ensures { result ≡ token_of (take record_words (drop at words.now)) }
 {
     if words.len() < RECORD_WORDS {
-        return Recorded::NoToken;
+        return None;
     }
     if words.len() - RECORD_WORDS < at {
-        return Recorded::NoToken;
+        return None;
     }
     token_in(load(words, at))
 }

@@ -2,12 +2,18 @@
 #![tactic(auto)]
 
 pub mod found;
+pub mod noted;
 pub mod token;
 
 ghost use Rattle.std.specs.Prelude.{◌≡◌, ◌+◌, ◌<◌, ◌≤◌, drop, length, set, take};
 ghost use Rattle.std.proofs.lemmas.List.Edits.{sets};
-ghost use Rattle.yaml_lexeme.specs.Record.{record_words};
+ghost use Rattle.yaml_lexeme.specs.Record.{number_of, record_words};
 ghost use Rattle.records.specs.Note.{empty_at, note_in, noted_word, without_note};
+ghost use Rattle.records.specs.Noted.{noted_number};
+
+use crate::noted::Noted;
+use crate::token::kind_number;
+use yaml_lexeme::Kind;
 
 // Words a record.
 pub const RECORD_WORDS: usize = 12;
@@ -20,12 +26,8 @@ pub fn load(words: &[u32], at: usize) -> [u32; RECORD_WORDS]
     requires { at + record_words ≤ length words.now }
     ensures { result ≡ take record_words (drop at words.now) }
 {
-    let mut r = [0u32; RECORD_WORDS];
-    let mut i = 0;
-    while i < RECORD_WORDS {
-        r[i] = words[at + i];
-        i += 1;
-    }
+    let mut r = [0; RECORD_WORDS];
+    r.copy_from_slice(&words[at..at + RECORD_WORDS]);
     r
 }
 
@@ -34,11 +36,7 @@ pub fn store(words: &mut [u32], at: usize, r: &[u32])
     requires { at + length r.now ≤ length words.old }
     ensures { words.new ≡ sets words.old at r.now }
 {
-    let mut i = 0;
-    while i < r.len() {
-        words[at + i] = r[i];
-        i += 1;
-    }
+    words[at..at + r.len()].copy_from_slice(r);
 }
 
 // The note on the record x.
@@ -58,16 +56,16 @@ pub fn without_note(x: [u32; RECORD_WORDS]) -> [u32; RECORD_WORDS]
 }
 
 // Sets the note on the record that begins at `at`.
-pub fn set_note(words: &mut [u32], at: usize, note: u32)
-    requires { (at < length words.old) × (note ≤ 3) }
-    ensures { words.new ≡ set words.old at (noted_word words.old at note) }
+pub fn set_note(words: &mut [u32], at: usize, note: Noted)
+    requires { at < length words.old }
+    ensures { words.new ≡ set words.old at (noted_word words.old at (noted_number note)) }
 {
-    words[at] = words[at] % NOTE_BASE + NOTE_BASE * note;
+    words[at] = words[at] % NOTE_BASE + NOTE_BASE * note as u32;
 }
 
-// The record of an empty token at the start mark of the record x, by the number of its kind.
-pub fn empty_at(kind: u32, x: [u32; RECORD_WORDS]) -> [u32; RECORD_WORDS]
-    ensures { result ≡ empty_at kind x }
+// The record of an empty token of this kind at the start mark of the record x.
+pub fn empty_at(kind: Kind, x: [u32; RECORD_WORDS]) -> [u32; RECORD_WORDS]
+    ensures { result ≡ empty_at (number_of kind) x }
 {
-    [kind, x[1], x[2], x[3], x[1], x[2], x[3], 0, 0, 0, 0, 0]
+    [kind_number(kind), x[1], x[2], x[3], x[1], x[2], x[3], 0, 0, 0, 0, 0]
 }

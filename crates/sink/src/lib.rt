@@ -5,16 +5,17 @@ mod block;
 
 ghost use Rattle.std.specs.Prelude.{◌≡◌, ◌*◌, ◌+◌, ◌-◌, ◌<◌, ◌^◌, ◌≤◌, length};
 ghost use Rattle.yaml_lexeme.specs.Record.{record_of, record_words};
-ghost use Rattle.events.specs.declared.Opening.TheVariants as opening;
 ghost use Rattle.events.specs.Event.{brief_event};
 ghost use Rattle.events.specs.Event.{opening_if};
 ghost use Rattle.events.specs.Event.{empty_of};
+ghost use Rattle.records.specs.Noted.{noted_number};
 ghost use Rattle.sink.specs.Store.{put_list, put_note, put_record};
 ghost use Rattle.sink.specs.StepTokens.{end_tokens, event_tokens, note_from, noted_words, opening_tokens, put_news, shifted};
 ghost use Rattle.sink.specs.Settle.{front, settled_words, total_records};
 
 use crate::block::put_block;
 use events::{Event, Note, Opening};
+use records::noted::Noted;
 use records::token::record_of;
 use records::{RECORD_WORDS, load, set_note, store};
 use yaml_lexeme::{Kind, Token};
@@ -51,31 +52,20 @@ fn put_ends(words: &mut [u32], n: usize, k: u32, m: Mark) -> usize
     ensures { (result ≡ n + k) × (words.new ≡ put_list words.old n (end_tokens k m)) }
 {
     let end = n + k as usize;
-    let mut i = n;
-    while i < end {
-        i = put_empty_token(words, i, Kind::BlockEnd, m);
+    for i in n..end {
+        put_empty_token(words, i, Kind::BlockEnd, m);
     }
     end
 }
 
-// The slot of token n, where slot 0 is that of token base.
-fn slot_of(base: u32, n: u32) -> u32
-    ensures { result ≡ n - base }
-{
-    if n < base {
-        return 0;
-    }
-    n - base
-}
-
 // Notes on the record of token n, if its slot is there, what goes in before it.
-fn put_note(words: &mut [u32], base: u32, n: u32, number: u32)
-    requires { number ≤ 3 }
-    ensures { words.new ≡ put_note words.old (n - base) number }
+// Slot 0 is that of token base.
+fn put_note(words: &mut [u32], base: u32, n: u32, note: Noted)
+    ensures { words.new ≡ put_note words.old (n - base) (noted_number note) }
 {
-    let at = slot_of(base, n) as usize * RECORD_WORDS;
+    let at = n.saturating_sub(base) as usize * RECORD_WORDS;
     if at + RECORD_WORDS <= words.len() {
-        set_note(words, at, number);
+        set_note(words, at, note);
     }
 }
 
@@ -84,9 +74,9 @@ fn note(words: &mut [u32], base: u32, n: Note)
 {
     match n {
         Note::Nothing => {}
-        Note::Key(k) => put_note(words, base, k, 1),
-        Note::Pair(k) => put_note(words, base, k, 2),
-        Note::Block(k) => put_note(words, base, k, 3),
+        Note::Key(k) => put_note(words, base, k, Noted::Key),
+        Note::Pair(k) => put_note(words, base, k, Noted::Pair),
+        Note::Block(k) => put_note(words, base, k, Noted::Block),
     }
 }
 
@@ -138,21 +128,31 @@ pub fn put_news(words: &mut [u32], base: u32, n: u32, here: Mark, ended: u32, e:
     put_event(words, k, e)
 }
 
-// The same of one token, behind the end of an implicit pair or not.
-pub fn put_brief(words: &mut [u32], n: u32, here: Mark, ended: u32, pair: bool, t: Token)
-    ensures { words.new ≡ put_news words.old n here ended (brief_event pair opening.FlowMappingEnd t) }
-{
-    let k = put_ends(words, n as usize, ended, here);
-    let j = put_led(words, k, pair, Opening::FlowMappingEnd, t.start);
-    put_record(words, j, t)
+// The empty token that a token with its own way (`put_brief`) may stand behind.
+pub trait Leads {
+    const OPENING: Opening;
 }
 
-// The same of '-', behind the start of its block or not. Called in one place each, both are compiled into the loop.
-pub fn put_entry(words: &mut [u32], n: u32, here: Mark, ended: u32, starts: bool, t: Token)
-    ensures { words.new ≡ put_news words.old n here ended (brief_event starts opening.BlockSequenceStart t) }
+// The end of an implicit pair.
+pub struct PairEnd;
+
+impl Leads for PairEnd {
+    const OPENING: Opening = Opening::FlowMappingEnd;
+}
+
+// The start of the block of a '-'.
+pub struct BlockStart;
+
+impl Leads for BlockStart {
+    const OPENING: Opening = Opening::BlockSequenceStart;
+}
+
+// The same of one token, behind that empty one or not. Called in one place for each L, both instances are compiled into the loop.
+pub fn put_brief<L: Leads>(words: &mut [u32], n: u32, here: Mark, ended: u32, led: bool, t: Token)
+    ensures { words.new ≡ put_news words.old n here ended (brief_event led L.OPENING t) }
 {
     let k = put_ends(words, n as usize, ended, here);
-    let j = put_led(words, k, starts, Opening::BlockSequenceStart, t.start);
+    let j = put_led(words, k, led, L::OPENING, t.start);
     put_record(words, j, t)
 }
 

@@ -4,37 +4,13 @@ ghost use Rattle.yaml_lexeme.specs.Record.{record_words};
 ghost use Rattle.yaml_stream.specs.Stream.{least_records};
 ghost use Rattle.records.specs.Note.{note_in};
 ghost use Rattle.driver.specs.Held.{held_words};
-ghost use Rattle.stream.specs.Words.{Gives, first_number, front_held, front_words, note_left, own, record_from, token_words, words_left};
+ghost use Rattle.stream.specs.Words.{Gives, front_held, front_words, own, record_from, token_words, words_left};
 
 use crate::LEAST_RECORDS;
 use driver::held::{BASE, COUNTS, HELD_WORDS, SLOT};
-use records::token::kind_number;
+use records::noted::Noted;
 use records::{RECORD_WORDS, empty_at, load, note_in, set_note, store};
 use stacks::at_most;
-use yaml_lexeme::Kind;
-
-// The number of the kind that goes in first before a record with the note n.
-fn opener_number(n: u32) -> u32
-    ensures { result ≡ first_number n }
-{
-    if n == 1 {
-        return kind_number(Kind::Key);
-    }
-    if n == 2 {
-        return kind_number(Kind::FlowMappingStart);
-    }
-    kind_number(Kind::BlockMappingStart)
-}
-
-// The note that is left when that was given.
-fn note_left(n: u32) -> u32
-    ensures { result ≡ note_left n }
-{
-    if 1 < n {
-        return 1;
-    }
-    0
-}
 
 // The first token of the record that begins at `at`; 1 where it was its own.
 fn give(words: &mut [u32], at: usize, token: &mut [u32; RECORD_WORDS]) -> u32
@@ -42,13 +18,13 @@ fn give(words: &mut [u32], at: usize, token: &mut [u32; RECORD_WORDS]) -> u32
     ensures { (result ≡ own (note_in (record_from words.old at))) × (token.new ≡ token_words (record_from words.old at)) × (words.new ≡ words_left words.old at (note_in (record_from words.old at))) }
 {
     let x = load(words, at);
-    let n = note_in(x);
-    if n == 0 {
+    let note = Noted::from(note_in(x));
+    let Some(kind) = note.first() else {
         store(token, 0, &x);
         return 1;
-    }
-    store(token, 0, &empty_at(opener_number(n), x));
-    set_note(words, at, note_left(n));
+    };
+    store(token, 0, &empty_at(kind, x));
+    set_note(words, at, note.rest());
     0
 }
 

@@ -14,7 +14,6 @@ use records::found::token_of;
 use stream::{Next, next_token};
 use token_lines::kind::put_token;
 use token_lines::out::{Waiting, flush};
-use yaml_lexeme::Recorded;
 use yaml_text::{Mark, Refusal};
 
 // The buffer.
@@ -48,8 +47,8 @@ fn put_record(
 ) -> Waiting {
     let r = token_of(&token, 0);
     match r {
-        Recorded::Found(t) => put_token(outlet, out, o, t, bytes),
-        Recorded::NoToken => o,
+        Some(t) => put_token(outlet, out, o, t, bytes),
+        None => o,
     }
 }
 

@@ -1,12 +1,10 @@
 -- Tokens as code holds them (the types of src/lib.rt): the words of a token's record, the token of a record, and how a token of the definition is held.
-use Rattle.std.specs.Prelude.{◌+◌, ℕ, List, [], ◌++◌, ◌∷◌, map, get_or, length}
+use Rattle.std.specs.Prelude.{◌+◌, ℕ, List, [], ◌++◌, ◌∷◌, map, get_or, length, Option, Some, None}
 use Rattle.yaml_text.specs.declared.Mark.{Mark}
 use Rattle.yaml_text.specs.Pick.{pick}
 use Rattle.yaml_text.specs.Class.{same}
 use Rattle.yaml_lexeme.specs.declared.Kind.{Kind as HeldKind}
 use Rattle.yaml_lexeme.specs.declared.Kind.TheVariants as held
-use Rattle.yaml_lexeme.specs.declared.Recorded.{Recorded}
-use Rattle.yaml_lexeme.specs.declared.Recorded.TheVariants.{Found, NoToken}
 use Rattle.yaml_lexeme.specs.declared.Style.{Style}
 use Rattle.yaml_lexeme.specs.declared.Style.TheVariants.{DoubleQuoted, Folded, Literal, Plain, SingleQuoted}
 use Rattle.yaml_lexeme.specs.declared.Text.{Text}
@@ -136,11 +134,11 @@ abbrev pub text_in : List ℕ → ℕ → Text
 text_in w i = record { at = get_or w i 0; len = get_or w (i + 1) 0 }
 
 -- a token of this kind, with the marks of w
-abbrev pub with_marks : List ℕ → HeldKind → Recorded
-with_marks w k = Found (record { kind = k; start = mark_in w 1; end = mark_in w 4 })
+abbrev pub with_marks : List ℕ → HeldKind → Option HeldToken
+with_marks w k = Some (record { kind = k; start = mark_in w 1; end = mark_in w 4 })
 
 -- the scalars of a text, by the numbers of their styles
-abbrev pub scalar_rows : List ℕ → Text → List (ℕ × Recorded)
+abbrev pub scalar_rows : List ℕ → Text → List (ℕ × Option HeldToken)
 scalar_rows w t =
     map (λ (s : Style). (style_number s, with_marks w (held.Scalar s t))) (Plain ∷ SingleQuoted ∷ DoubleQuoted ∷ Literal ∷ Folded ∷ [])
 
@@ -155,19 +153,19 @@ kinds_in w =
     ∷ held.BlockEntry ∷ held.FlowEntry ∷ held.Key ∷ held.Value ∷ held.Alias t ∷ held.Anchor t ∷ held.Tag t u ∷ held.ReservedDirective t u ∷ []
 
 -- all kinds by their numbers
-abbrev pub kind_rows : List ℕ → List (ℕ × Recorded)
+abbrev pub kind_rows : List ℕ → List (ℕ × Option HeldToken)
 kind_rows w =
     let t = text_in w 7 in
-    (number_of (held.Scalar Plain t), looked_up NoToken (get_or w 11 0) (scalar_rows w t)) ∷ map (λ (k : HeldKind). (number_of k, with_marks w k)) (kinds_in w)
+    (number_of (held.Scalar Plain t), looked_up None (get_or w 11 0) (scalar_rows w t)) ∷ map (λ (k : HeldKind). (number_of k, with_marks w k)) (kinds_in w)
 
 -- the only token whose record w can be, by word 1 and, of a scalar, word 12
-abbrev pub token_by_number : List ℕ → Recorded
-token_by_number w = looked_up NoToken (get_or w 0 0) (kind_rows w)
+abbrev pub token_by_number : List ℕ → Option HeldToken
+token_by_number w = looked_up None (get_or w 0 0) (kind_rows w)
 
 -- that token, if w is its record
-abbrev pub if_record : List ℕ → Recorded → Recorded
-if_record w (Found t) = pick (same (record_of t) w) (Found t) NoToken
-if_record w NoToken = NoToken
+abbrev pub if_record : List ℕ → Option HeldToken → Option HeldToken
+if_record w (Some t) = pick (same (record_of t) w) (Some t) None
+if_record w None = None
 
-unfoldable pub token_of : List ℕ → Recorded
+unfoldable pub token_of : List ℕ → Option HeldToken
 token_of w = if_record w (token_by_number w)

@@ -1,15 +1,13 @@
 -- A record has its words, the first of them is not 0, and the token of a record is the one whose record it is.
-use Rattle.std.specs.Prelude.{◌*◌, ◌+◌, ◌≤◌, ℕ, true, ◌≡◌, refl, eqb, drop, get_or, length, take}
+use Rattle.std.specs.Prelude.{◌*◌, ◌+◌, ◌≤◌, ℕ, true, ◌≡◌, refl, eqb, drop, get_or, length, take, Option, Some, None}
 use mathlib.Core.List.{List, [], ◌++◌, ◌∷◌, append_assoc}
 use Rattle.std.proofs.Common.{◌∙◌, ap, sym, arith, length-append, drop_at, take_at, eqb-true, eq-eqb}
-use Rattle.std.proofs.Math.Path.{transport}
+use Rattle.std.proofs.lemmas.Option.{none-some, same_Some}
 use Rattle.yaml_text.specs.declared.Mark.{Mark}
 use Rattle.yaml_text.specs.Class.{same}
 use Rattle.yaml_text.specs.Test.{both_true, by_test, true_false}
 use Rattle.yaml_lexeme.specs.declared.Kind.{Kind as HeldKind}
 use Rattle.yaml_lexeme.specs.declared.Kind.TheVariants as held
-use Rattle.yaml_lexeme.specs.declared.Recorded.{Recorded}
-use Rattle.yaml_lexeme.specs.declared.Recorded.TheVariants.{Found, NoToken}
 use Rattle.yaml_lexeme.specs.declared.Style.TheVariants.{DoubleQuoted, Folded, Literal, Plain, SingleQuoted}
 use Rattle.yaml_lexeme.specs.declared.Token.{Token as HeldToken}
 use Rattle.yaml_lexeme.specs.Table.{looked_up}
@@ -94,7 +92,7 @@ same_true (a ∷ l) (b ∷ m) e =
 
 -- the record of a token is that token's
 
-of_number : (k : HeldKind) (start end : Mark) → token_by_number (record_of (record { kind = k; start = start; end = end })) ≡ Found (record { kind = k; start = start; end = end })
+of_number : (k : HeldKind) (start end : Mark) → token_by_number (record_of (record { kind = k; start = start; end = end })) ≡ Some (record { kind = k; start = start; end = end })
 unfolding looked_up number_of style_number values_of record_of
 of_number held.StreamStart start end = refl
 of_number held.StreamEnd start end = refl
@@ -124,39 +122,29 @@ of_number (held.Scalar Literal t) start end = refl
 of_number (held.Scalar Folded t) start end = refl
 of_number (held.ReservedDirective t u) start end = refl
 
-pub token_found : (t : HeldToken) → token_of (record_of t) ≡ Found t
+pub token_found : (t : HeldToken) → token_of (record_of t) ≡ Some t
 unfolding token_of
 token_found t =
-    ap (λ (r : Recorded). if_record (record_of t) r) (of_number t.kind t.start t.end) ∙ rw (same_itself (record_of t), if_record)
+    ap (λ (r : Option HeldToken). if_record (record_of t) r) (of_number t.kind t.start t.end) ∙ rw (same_itself (record_of t), if_record)
 
 -- and no other words have it
 
-found_token : Recorded → HeldToken → HeldToken
-found_token (Found t) u = t
-found_token NoToken u = u
-
-is_found : Recorded → Type 0
-is_found (Found t) = Unit {0}
-is_found NoToken = ⊥
-
-if_found : (w : List ℕ) (r : Recorded) (t : HeldToken) → if_record w r ≡ Found t → record_of t ≡ w
-unfolding found_token is_found
-if_found w (Found u) t e =
+if_found : (w : List ℕ) (r : Option HeldToken) (t : HeldToken) → if_record w r ≡ Some t → record_of t ≡ w
+if_found w (Some u) t e =
     by_test (same (record_of u) w)
-    (λ h. let g : Found u ≡ Found t = rw (h, if_record) at e in
-    let s : u ≡ t = ap (λ (r : Recorded). found_token r u) g in
-    rw (sym s) (same_true (record_of u) w h))
-    (λ h. let g : NoToken ≡ Found t = rw (h, if_record) at e in absurd (transport (ap is_found (sym g)) tt))
-if_found w NoToken t e = absurd (transport (ap is_found (sym e)) tt)
+    (λ h. let g : Some u ≡ Some t = rw (h, if_record) at e in
+    rw (sym (same_Some u t g)) (same_true (record_of u) w h))
+    (λ h. let g : None ≡ Some t = rw (h, if_record) at e in absurd (none-some t g))
+if_found w None t e = absurd (none-some t e)
 
-pub found_record : (w : List ℕ) (t : HeldToken) → token_of w ≡ Found t → record_of t ≡ w
+pub found_record : (w : List ℕ) (t : HeldToken) → token_of w ≡ Some t → record_of t ≡ w
 unfolding token_of
 found_record w t e = if_found w (token_by_number w) t e
 
 -- words of another length are no record
-none_or : (w : List ℕ) (r : Recorded) → token_of w ≡ r → ((t : HeldToken) → r ≡ Found t → ⊥) → token_of w ≡ NoToken
-none_or w (Found t) e h = absurd (h t refl)
-none_or w NoToken e h = e
+none_or : (w : List ℕ) (r : Option HeldToken) → token_of w ≡ r → ((t : HeldToken) → r ≡ Some t → ⊥) → token_of w ≡ None
+none_or w (Some t) e h = absurd (h t refl)
+none_or w None e h = e
 
-pub no_record : (w : List ℕ) → (length w ≡ record_words → ⊥) → token_of w ≡ NoToken
+pub no_record : (w : List ℕ) → (length w ≡ record_words → ⊥) → token_of w ≡ None
 no_record w h = none_or w (token_of w) refl (λ t e. h (ap length (sym (found_record w t e)) ∙ record_length t))

@@ -87,10 +87,3 @@ pub struct Token {
     pub start: Mark,
     pub end: Mark,
 }
-
-// What words are: the record of a token, or of none.
-#[derive(Clone, Copy)]
-pub enum Recorded {
-    Found(Token),
-    NoToken,
-}
