@@ -50,10 +50,11 @@ pub fn is_ordinary(b: u8) -> bool
 }
 
 // 1 for a byte of the class, else 0.
+#[tactic(auto, unfolding(crate::specs::Each::one_of, crate::specs::Blocks::is_space))]
 fn one_of<C: ByteClass>(b: u8) -> u8
     ensures { result ≡ one_of C.test b }
 {
-    C::has(b) as u8
+    u8::from(C::has(b))
 }
 
 // How many of at most 64 bytes are of the class.

@@ -1,23 +1,17 @@
--- The invariant: those of the class that were passed and those that are left are all of them.
-use Prim.Native.Nat.{◌≤◌}
-use native.Mathlib.Omega.{arith}
-use Rattle.chars.specs.Blocks.{in_class}
+use Rattle.std.proofs.Common.{◌≤◌, arith, rules}
 use Rattle.chars.specs.Each.{count_more, count_none, one_most}
-use borrow.Author.Rules.{rules}
 use Rattle.chars.proofs.block.count.Goals as goal
 
 pub overflow_add-n : goal.overflow_add-n
-overflow_add-n c =
+overflow_add-n g c =
     let few : c.one_of-n.result ≤ 1 = rw c.one_of-n.ensures (one_most _ _) in
-    let h = few in search rules
+    search rules
 
-pub loop-i-preserved : goal.loop-i-preserved
-loop-i-preserved c =
+pub loop-b-preserved : goal.loop-b-preserved
+loop-b-preserved g c =
+    let p = g.C.ByteClass.test in
     let few : c.one_of-n.result ≤ 1 = rw c.one_of-n.ensures (one_most _ _) in
-    let a = c.args in
-    omega (arith, few, c.one_of-n.ensures, count_more (in_class a.class) a.s.now c.loop-i.i c.loop-i-test.true)
+    omega (arith, few, c.one_of-n.ensures, count_more p c.args.s.now c.loop-b.b-index c.loop-b-test.true)
 
 pub returns : goal.returns
-returns c =
-    let a = c.args in
-    omega (arith, count_none (in_class a.class) a.s.now c.loop-i.i c.loop-i-test.false)
+returns g c = omega (arith, count_none g.C.ByteClass.test c.args.s.now c.loop-b.b-index c.loop-b-test.false)
