@@ -2,13 +2,10 @@
 #![tactic(auto)]
 
 ghost use Rattle.std.specs.Prelude.{◌<◌, ◌^◌, ◌≤◌, ◌≡◌, length};
-ghost use Rattle.yaml_text.specs.Pick.{pick};
-ghost use Rattle.yaml_lexeme.specs.declared.Kind.TheVariants as kind;
 ghost use Rattle.yaml_lexeme.specs.Gap.{blanks_and_comment};
 ghost use Rattle.yaml_scan.specs.Bracket.{fetch_flow_collection_end, fetch_flow_collection_start, fetch_flow_entry, new_level};
 ghost use Rattle.chars.specs.View.{Stands, view};
 ghost use Rattle.reading.specs.Reading.{ReachesAs};
-ghost use Rattle.stacks.specs.Stack.{stack_words};
 ghost use Rattle.events.specs.declared.Counts as counts;
 ghost use Rattle.states.specs.Brief.{brief_fetched};
 ghost use Rattle.states.specs.Fetch.{FetchesQuiet, OneByte, Ready};
@@ -18,16 +15,18 @@ ghost use Rattle.brackets.specs.Words.{EntryFits, OpensLevel, StacksBracket, bra
 
 use chars::class::is_blank;
 use chars::mark::Place;
+use chars::pick::pick;
+use chars::refuse::refuse;
 use events::Counts;
 use gaps::blanks_and_comment;
-use reading::Reached;
+use stacks::STACK_WORDS;
 use stacks::frame::{clear_key, level_data, set_level};
 use stacks::indent::{Indents, full, push, top_ends};
-use states::{Brief, State, refuse_brief};
+use states::{Brief, State};
 use utf8::byte;
 use yaml_lexeme::{Kind, Token};
 use yaml_scan::{Level, Limits};
-use yaml_text::Mark;
+use yaml_text::{Mark, Refusal};
 
 // A fresh entry of a level.
 fn new_level(sequence: bool) -> Level
@@ -54,7 +53,7 @@ fn past_bracket(s: State, p: Place, closes: bool) -> State
 }
 
 // The blanks and comment here; at once where neither begins.
-fn rest_of_line(text: &[u8], start: Place) -> Reached
+fn rest_of_line(text: &[u8], start: Place) -> Result<Place, Refusal>
     requires { Stands text.now start }
     ensures { ReachesAs text.now start result (blanks_and_comment (view text.now start)) }
 {
@@ -63,7 +62,7 @@ fn rest_of_line(text: &[u8], start: Place) -> Reached
     if is_blank(c as u32) | (c == b'#') {
         return blanks_and_comment(text, start);
     }
-    Reached::To(start)
+    Ok(start)
 }
 
 // Behind a bracket or ',' with its blanks and comment: the state, and the token.
@@ -91,7 +90,7 @@ fn past(s: State, pair: bool, kind: Kind, next: Place, closes: bool) -> Brief
 }
 
 // Whether K6 stacks an entry for a bracket here: at level 0, while the top entry ends in BlockEnd.
-fn needs_entry(s: State, stacks: &[u32]) -> bool
+fn needs_entry(s: State, stacks: &[u32; STACK_WORDS]) -> bool
     requires { s.indents.depth ≤ length stacks.now }
     ensures { result ≡ stacks_entry stacks.now s }
 {
@@ -102,7 +101,7 @@ fn needs_entry(s: State, stacks: &[u32]) -> bool
 }
 
 // The indents behind the bracket: a non-ending entry with indent + 1 is stacked, or none.
-fn stack_bracket(limits: Limits, entry: bool, s: State, stacks: &mut [u32]) -> Indents
+fn stack_bracket(limits: Limits, entry: bool, s: State, stacks: &mut [u32; STACK_WORDS]) -> Indents
     requires { EntryFits limits entry stacks.old s }
     ensures { StacksBracket limits entry stacks.old stacks.new s result }
 {
@@ -113,27 +112,9 @@ fn stack_bracket(limits: Limits, entry: bool, s: State, stacks: &mut [u32]) -> I
     i
 }
 
-fn opening_kind(sequence: bool) -> Kind
-    ensures { result ≡ pick sequence kind.FlowSequenceStart kind.FlowMappingStart }
-{
-    if sequence {
-        return Kind::FlowSequenceStart;
-    }
-    Kind::FlowMappingStart
-}
-
-fn closing_kind(sequence: bool) -> Kind
-    ensures { result ≡ pick sequence kind.FlowSequenceEnd kind.FlowMappingEnd }
-{
-    if sequence {
-        return Kind::FlowSequenceEnd;
-    }
-    Kind::FlowMappingEnd
-}
-
 // One level more, without a candidate.
-fn open_level(stacks: &mut [u32], level: usize, sequence: bool)
-    requires { (level < 255) × (stack_words ≤ length stacks.old) }
+fn open_level(stacks: &mut [u32; STACK_WORDS], level: usize, sequence: bool)
+    requires { level < 255 }
     ensures { OpensLevel stacks.old stacks.new level (new_level sequence) }
 {
     let inner = level + 1;
@@ -148,30 +129,25 @@ pub fn fetch_flow_collection_start(
     sequence: bool,
     s: State,
     n: Counts,
-    stacks: &mut [u32],
-) -> Brief
+    stacks: &mut [u32; STACK_WORDS],
+) -> Result<Brief, Refusal>
     requires { Ready limits text.now stacks.old s × OneByte text.now s.place }
     ensures { FetchesQuiet limits text.now stacks.old stacks.new (bracket_words sequence stacks.old n.count s) n s (fetch_flow_collection_start limits sequence (state_of text.now stacks.old n.count s)) (brief_fetched result) }
 {
     let entry = needs_entry(s, stacks);
     if entry & (limits.entries <= s.indents.depth) {
-        return Brief::Refused(full(s.place.mark));
+        return full(s.place.mark);
     }
     if limits.levels <= s.flow_level {
-        return refuse_brief(28, s.place.mark);
+        return refuse(28, s.place.mark);
     }
-    let r = rest_of_line(text, s.place.skip_blank());
-    let next = match r {
-        Reached::Refused(f) => {
-            return Brief::Refused(f);
-        }
-        Reached::To(next) => next,
-    };
+    let next = rest_of_line(text, s.place.skip_blank())?;
     s.save_key(n.count, stacks);
     let i = stack_bracket(limits, entry, s, stacks);
     open_level(stacks, s.flow_level, sequence);
     let t = s.with_indents(i).with_level(s.flow_level + 1);
-    past(t, false, opening_kind(sequence), next, false)
+    let kind = pick(sequence, Kind::FlowSequenceStart, Kind::FlowMappingStart);
+    Ok(past(t, false, kind, next, false))
 }
 
 // ']' or '}'. 47: not the latest open one's kind, or none is open. Its level's candidate and data stay behind, unread.
@@ -180,44 +156,37 @@ pub fn fetch_flow_collection_end(
     text: &[u8],
     sequence: bool,
     s: State,
-    stacks: &[u32],
-) -> Brief
+    stacks: &[u32; STACK_WORDS],
+) -> Result<Brief, Refusal>
     requires { Ready limits text.now stacks.now s × OneByte text.now s.place }
     ensures { (n : counts.Counts) → FetchesQuiet limits text.now stacks.now stacks.now stacks.now n s (fetch_flow_collection_end sequence (state_of text.now stacks.now n.count s)) (brief_fetched result) }
 {
     if s.flow_level == 0 {
-        return refuse_brief(47, s.place.mark);
+        return refuse(47, s.place.mark);
     }
     let l = level_data(stacks, s.flow_level);
     if l.sequence != sequence {
-        return refuse_brief(47, s.place.mark);
+        return refuse(47, s.place.mark);
     }
-    let r = rest_of_line(text, s.place.skip_blank());
-    match r {
-        Reached::Refused(f) => Brief::Refused(f),
-        Reached::To(next) => past(
-            s.with_level(s.flow_level - 1),
-            l.implicit,
-            closing_kind(sequence),
-            next,
-            true,
-        ),
-    }
+    let next = rest_of_line(text, s.place.skip_blank())?;
+    let t = s.with_level(s.flow_level - 1);
+    let kind = pick(sequence, Kind::FlowSequenceEnd, Kind::FlowMappingEnd);
+    Ok(past(t, l.implicit, kind, next, true))
 }
 
 // ',' in flow.
-pub fn fetch_flow_entry(limits: Limits, text: &[u8], s: State, stacks: &mut [u32]) -> Brief
+pub fn fetch_flow_entry(
+    limits: Limits,
+    text: &[u8],
+    s: State,
+    stacks: &mut [u32; STACK_WORDS],
+) -> Result<Brief, Refusal>
     requires { Ready limits text.now stacks.old s × OneByte text.now s.place × (0 < s.flow_level) }
     ensures { (n : counts.Counts) → FetchesQuiet limits text.now stacks.old stacks.new (comma_words stacks.old s) n s (fetch_flow_entry (state_of text.now stacks.old n.count s)) (brief_fetched result) }
 {
-    let r = rest_of_line(text, s.place.skip_blank());
-    match r {
-        Reached::Refused(f) => Brief::Refused(f),
-        Reached::To(next) => {
-            s.remove_key(stacks);
-            let l = level_data(stacks, s.flow_level);
-            set_level(stacks, s.flow_level, new_level(l.sequence));
-            past(s, l.implicit, Kind::FlowEntry, next, false)
-        }
-    }
+    let next = rest_of_line(text, s.place.skip_blank())?;
+    s.remove_key(stacks);
+    let l = level_data(stacks, s.flow_level);
+    set_level(stacks, s.flow_level, new_level(l.sequence));
+    Ok(past(s, l.implicit, Kind::FlowEntry, next, false))
 }

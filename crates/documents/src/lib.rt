@@ -1,18 +1,16 @@
 // What stands outside every block: document markers, byte order marks and the end of the text. Each leaves all blocks.
 #![tactic(auto)]
 
-ghost use Rattle.std.specs.Prelude.{◌≡◌, true, ◌^◌, ◌<◌, ◌≤◌, drop, length};
+ghost use Rattle.std.specs.Prelude.{◌≡◌, true, ◌^◌, ◌<◌, ◌≤◌, drop};
 ghost use Rattle.yaml_text.specs.Char.{byte_order_mark};
 ghost use Rattle.yaml_text.specs.Mark.{is_marker};
-ghost use Rattle.yaml_text.specs.Pick.{pick};
 ghost use Rattle.yaml_text.specs.Utf8.{chars};
-ghost use Rattle.yaml_lexeme.specs.declared.Kind.TheVariants as kind;
 ghost use Rattle.yaml_scan.specs.Document.{after_marker, fetch_byte_order_mark, fetch_document_indicator, fetch_stream_end, forced};
 ghost use Rattle.chars.specs.Bytes.{CharAt};
 ghost use Rattle.chars.specs.View.{Stands, view};
 ghost use Rattle.reading.specs.Reading.{ReachesAs};
 ghost use Rattle.stacks.specs.Indent.{Low};
-ghost use Rattle.stacks.specs.Stack.{entry_words, stack_words};
+ghost use Rattle.stacks.specs.Stack.{entry_words};
 ghost use Rattle.states.specs.Fetch.{FetchesQuiet, Ready};
 ghost use Rattle.states.specs.Key.{removed_words};
 ghost use Rattle.states.specs.State.{state_of};
@@ -20,20 +18,22 @@ ghost use Rattle.documents.specs.Leave.{LeavesBlocks, goes_outside};
 
 use chars::class::is_breakz;
 use chars::mark::Place;
+use chars::pick::pick;
+use chars::refuse::refuse;
 use events::{Counts, closing};
 use gaps::blanks_and_comment;
-use reading::{Reached, stuck};
+use stacks::STACK_WORDS;
 use stacks::frame::is_required;
 use stacks::indent::{Unrolled, unroll};
-use states::{Fetched, State, refuse};
+use states::{Fetched, State};
 use utf8::look;
 use yaml_lexeme::{Kind, Token};
 use yaml_scan::Limits;
-use yaml_text::Mark;
+use yaml_text::{Mark, Refusal};
 
 // Out of every block: how many of them end, and the indents left. The candidate goes.
-pub fn leave_blocks(s: State, stacks: &mut [u32]) -> Unrolled
-    requires { (s.flow_level ≤ 255) × Low entry_words s.indents × (stack_words ≤ length stacks.old) }
+pub fn leave_blocks(s: State, stacks: &mut [u32; STACK_WORDS]) -> Unrolled
+    requires { (s.flow_level ≤ 255) × Low entry_words s.indents }
     ensures { LeavesBlocks stacks.old stacks.new s result }
 {
     let u = unroll(stacks, 0, s.indents);
@@ -57,8 +57,8 @@ pub fn fetch_byte_order_mark(
     text: &[u8],
     s: State,
     n: Counts,
-    stacks: &mut [u32],
-) -> Fetched
+    stacks: &mut [u32; STACK_WORDS],
+) -> Result<Fetched, Refusal>
     requires { Ready limits text.now stacks.old s × CharAt text.now s.place.at byte_order_mark 3 }
     ensures { FetchesQuiet limits text.now stacks.old stacks.new (removed_words stacks.old s) n s
         (fetch_byte_order_mark (state_of text.now stacks.old n.count s)) result }
@@ -73,38 +73,23 @@ pub fn fetch_byte_order_mark(
         end: end,
     };
     let u = leave_blocks(s, stacks);
-    go_on(s, u, e, s.leading_whitespace, true, token)
+    Ok(go_on(s, u, e, s.leading_whitespace, true, token))
 }
 
 // What follows a marker on its line: after `...` blanks or a comment, to the line's end. 49: text.
-fn after_marker(text: &[u8], starts: bool, p: Place) -> Reached
+fn after_marker(text: &[u8], starts: bool, p: Place) -> Result<Place, Refusal>
     requires { Stands text.now p }
     ensures { ReachesAs text.now p result (after_marker starts (view text.now p)) }
 {
     if starts {
-        return Reached::To(p);
+        return Ok(p);
     }
-    let r = blanks_and_comment(text, p);
-    match r {
-        Reached::Refused(_) => r,
-        Reached::To(e) => {
-            let at = e.at;
-            if is_breakz(look(text, at)) {
-                return r;
-            }
-            let m = e.mark;
-            stuck(49, m)
-        }
+    let e = blanks_and_comment(text, p)?;
+    let at = e.at;
+    if !is_breakz(look(text, at)) {
+        return refuse(49, e.mark);
     }
-}
-
-fn marker_kind(starts: bool) -> Kind
-    ensures { result ≡ pick starts kind.DocumentStart kind.DocumentEnd }
-{
-    if starts {
-        return Kind::DocumentStart;
-    }
-    Kind::DocumentEnd
+    Ok(e)
 }
 
 // `---` or `...`. 47: in flow.
@@ -114,8 +99,8 @@ pub fn fetch_document_indicator(
     starts: bool,
     s: State,
     n: Counts,
-    stacks: &mut [u32],
-) -> Fetched
+    stacks: &mut [u32; STACK_WORDS],
+) -> Result<Fetched, Refusal>
     requires { Ready limits text.now stacks.old s × (is_marker s.place.mark (chars (drop s.place.at text.now)) ≡ true) }
     ensures { FetchesQuiet limits text.now stacks.old stacks.new (removed_words stacks.old s) n s
         (fetch_document_indicator starts (state_of text.now stacks.old n.count s)) result }
@@ -126,20 +111,15 @@ pub fn fetch_document_indicator(
         return refuse(47, m);
     }
     let e = p.skip_n_non_blank(3);
-    let r = after_marker(text, starts, e);
-    match r {
-        Reached::Refused(f) => Fetched::Refused(f),
-        Reached::To(next) => {
-            let end = e.mark;
-            let token = Token {
-                kind: marker_kind(starts),
-                start: m,
-                end: end,
-            };
-            let u = leave_blocks(s, stacks);
-            go_on(s, u, next, false, false, token)
-        }
-    }
+    let next = after_marker(text, starts, e)?;
+    let end = e.mark;
+    let token = Token {
+        kind: pick(starts, Kind::DocumentStart, Kind::DocumentEnd),
+        start: m,
+        end: end,
+    };
+    let u = leave_blocks(s, stacks);
+    Ok(go_on(s, u, next, false, false, token))
 }
 
 // The end of the text forces a new line.
@@ -158,7 +138,13 @@ fn forced(m: Mark) -> Mark
 }
 
 // 47: a bracket left open; then 41: a required key is pending.
-pub fn fetch_stream_end(limits: Limits, text: &[u8], s: State, n: Counts, stacks: &[u32]) -> Fetched
+pub fn fetch_stream_end(
+    limits: Limits,
+    text: &[u8],
+    s: State,
+    n: Counts,
+    stacks: &[u32; STACK_WORDS],
+) -> Result<Fetched, Refusal>
     requires { Ready limits text.now stacks.now s }
     ensures { FetchesQuiet limits text.now stacks.now stacks.now stacks.now n s
         (fetch_stream_end (state_of text.now stacks.now n.count s)) result }
@@ -177,5 +163,5 @@ pub fn fetch_stream_end(limits: Limits, text: &[u8], s: State, n: Counts, stacks
         start: end,
         end: end,
     };
-    Fetched::Ends(closing(out.ended, token))
+    Ok(Fetched::Ends(closing(out.ended, token)))
 }

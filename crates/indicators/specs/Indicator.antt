@@ -1,6 +1,7 @@
 -- What '-', '?' and ':' do: one character, the current level, rolling, and what the definition sees of it.
-use Rattle.std.specs.Prelude.{◌≤◌, ℕ, Bool, false, List, ◌≡◌, ltb}
+use Rattle.std.specs.Prelude.{◌≤◌, ℕ, Bool, false, List, ◌≡◌, Result, Ok, Err, ltb}
 use Rattle.yaml_text.specs.declared.Mark.{Mark}
+use Rattle.yaml_text.specs.declared.Refusal.{Refusal}
 use Rattle.yaml_text.specs.Pick.{pick}
 use Rattle.yaml_text.specs.Mark.{along, edge_of}
 use Rattle.yaml_lexeme.specs.declared.Kind.{Kind}
@@ -9,7 +10,6 @@ use Rattle.yaml_scan.specs.Indent.{roll_at}
 use Rattle.chars.specs.declared.mark.Place.{Place}
 use Rattle.chars.specs.View.{past}
 use Rattle.stacks.specs.declared.indent.Rolled.{Rolled}
-use Rattle.stacks.specs.declared.indent.Rolled.TheVariants as rolled
 use Rattle.stacks.specs.Frame.{FramesStay, SetsLevel, level_of}
 use Rattle.stacks.specs.Indent.{Low, indents_seen}
 use Rattle.stacks.specs.Roll.{LowRolled, rolled_seen}
@@ -57,12 +57,12 @@ pub record Rollable (limits : Limits) (a : List ℕ) (m : Mark) (s : State) : Ty
   pub col : m.col ≤ 1_048_576
 
 -- a refusal leaves the words as they are
-abbrev pub KeptRolled : List ℕ → List ℕ → Rolled → Type 0
-KeptRolled a e (rolled.Got starts i) = Unit {0}
-KeptRolled a e (rolled.Refused f) = e ≡ a
+abbrev pub KeptRolled : List ℕ → List ℕ → Result Rolled Refusal → Type 0
+KeptRolled a e (Ok r) = Unit {0}
+KeptRolled a e (Err f) = e ≡ a
 
 -- rolling to it, only at level 0, from the words a to e
-pub record RollsAt (limits : Limits) (a e : List ℕ) (m : Mark) (s : State) (r : Rolled) : Type 0 where
+pub record RollsAt (limits : Limits) (a e : List ℕ) (m : Mark) (s : State) (r : Result Rolled Refusal) : Type 0 where
   pub same : rolled_seen e r ≡ roll_at limits.entries (ltb 0 s.flow_level) s.place.mark (edge_of m) (indents_seen a s.indents)
   pub words : e ≡ roll_words limits a m s
   pub kept : KeptRolled a e r

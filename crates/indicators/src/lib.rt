@@ -1,12 +1,11 @@
 // K4: '-' and '?'. K5: ':'.
 #![tactic(auto)]
 
-ghost use Rattle.std.specs.Prelude.{◌≡◌, ◌≤◌, length};
+ghost use Rattle.std.specs.Prelude.{◌≡◌, ◌≤◌};
 ghost use Rattle.yaml_scan.specs.declared.Candidate.TheVariants as candidate;
 ghost use Rattle.yaml_scan.specs.Value.{fetch_block_entry, fetch_key, fetch_value, value_with, value_without};
 ghost use Rattle.chars.specs.View.{Small};
 ghost use Rattle.stacks.specs.Frame.{SetsLevel, key_of, level_of};
-ghost use Rattle.stacks.specs.Stack.{stack_words};
 ghost use Rattle.events.specs.declared.Counts as counts;
 ghost use Rattle.states.specs.State.{key_mark, state_of};
 ghost use Rattle.states.specs.Brief.{brief_fetched};
@@ -15,27 +14,34 @@ ghost use Rattle.indicators.specs.Indicator.{Rollable, RollsAt, SeesColon, goes_
 ghost use Rattle.indicators.specs.Words.{colon_words, dash_words, question_words, questioned_of, with_words, without_words};
 
 use chars::mark::Place;
+use chars::refuse::refuse;
 use events::{Event, Note, Opening, opening_if};
 use reading::Lexeme;
+use stacks::STACK_WORDS;
 use stacks::frame::{clear_key, key, level_data, set_level};
 use stacks::indent::{Rolled, roll};
-use states::{Brief, Fetched, State, refuse, refuse_brief};
-use yaml_lexeme::{Kind, Token};
+use states::{Brief, Fetched, State};
+use yaml_lexeme::Kind;
 use yaml_scan::{Candidate, Limits};
-use yaml_text::Mark;
+use yaml_text::{Mark, Refusal};
 
 // K4: rolling to the column of a mark, only at level 0. 48 is here.
-fn roll_at(limits: Limits, m: Mark, s: State, stacks: &mut [u32]) -> Rolled
+fn roll_at(
+    limits: Limits,
+    m: Mark,
+    s: State,
+    stacks: &mut [u32; STACK_WORDS],
+) -> Result<Rolled, Refusal>
     requires { Rollable limits stacks.old m s }
     ensures { RollsAt limits stacks.old stacks.new m s result }
 {
     let i = s.indents;
     let here = s.place.mark;
     if 0 < s.flow_level {
-        return Rolled::Got {
+        return Ok(Rolled {
             starts: false,
             indents: i,
-        };
+        });
     }
     roll(stacks, limits.entries, here, m.col + 1, i)
 }
@@ -48,14 +54,7 @@ fn one_character(p: Place, kind: Kind) -> Lexeme
     let start = p.mark;
     let q = p.skip_blank();
     let end = q.mark;
-    Lexeme {
-        token: Token {
-            kind: kind,
-            start: start,
-            end: end,
-        },
-        next: q,
-    }
+    Lexeme::new(kind, start, end, q)
 }
 
 // On from behind it.
@@ -75,35 +74,32 @@ fn emit_indicator(s: State, note: Note, opening: Opening, kind: Kind, allowed: b
 }
 
 // '-'. 46: in flow, or no simple key is allowed.
-pub fn fetch_block_entry(limits: Limits, text: &[u8], s: State, stacks: &mut [u32]) -> Brief
+pub fn fetch_block_entry(
+    limits: Limits,
+    text: &[u8],
+    s: State,
+    stacks: &mut [u32; STACK_WORDS],
+) -> Result<Brief, Refusal>
     requires { Ready limits text.now stacks.old s × OneByte text.now s.place }
     ensures { (n : counts.Counts) → FetchesQuiet limits text.now stacks.old stacks.new (dash_words limits stacks.old s) n s (fetch_block_entry limits (state_of text.now stacks.old n.count s)) (brief_fetched result) }
 {
     if (0 < s.flow_level) | !s.simple_key_allowed {
-        return refuse_brief(46, s.place.mark);
+        return refuse(46, s.place.mark);
     }
-    let o = roll_at(limits, s.place.mark, s, stacks);
-    match o {
-        Rolled::Refused(f) => Brief::Refused(f),
-        Rolled::Got {
-            starts: starts,
-            indents: i,
-        } => {
-            s.remove_key(stacks);
-            let l = one_character(s.place, Kind::BlockEntry);
-            let t = l.token;
-            Brief::Enters {
-                state: s.with_indents(i).moved(l.next, false, true),
-                starts: starts,
-                token: t,
-            }
-        }
-    }
+    let r = roll_at(limits, s.place.mark, s, stacks)?;
+    s.remove_key(stacks);
+    let l = one_character(s.place, Kind::BlockEntry);
+    let t = l.token;
+    Ok(Brief::Enters {
+        state: s.with_indents(r.indents).moved(l.next, false, true),
+        starts: r.starts,
+        token: t,
+    })
 }
 
 // '?' came in this entry.
-fn question_seen(stacks: &mut [u32], level: usize)
-    requires { (level ≤ 255) × (stack_words ≤ length stacks.old) }
+fn question_seen(stacks: &mut [u32; STACK_WORDS], level: usize)
+    requires { level ≤ 255 }
     ensures { SetsLevel stacks.old stacks.new level (questioned_of (level_of stacks.old level)) }
 {
     let mut l = level_data(stacks, level);
@@ -112,37 +108,34 @@ fn question_seen(stacks: &mut [u32], level: usize)
 }
 
 // '?'. 46: at level 0 no simple key is allowed.
-pub fn fetch_key(limits: Limits, text: &[u8], s: State, stacks: &mut [u32]) -> Fetched
+pub fn fetch_key(
+    limits: Limits,
+    text: &[u8],
+    s: State,
+    stacks: &mut [u32; STACK_WORDS],
+) -> Result<Fetched, Refusal>
     requires { Ready limits text.now stacks.old s × OneByte text.now s.place }
     ensures { (n : counts.Counts) → FetchesQuiet limits text.now stacks.old stacks.new (question_words limits stacks.old s) n s (fetch_key limits (state_of text.now stacks.old n.count s)) result }
 {
     if (s.flow_level == 0) & !s.simple_key_allowed {
         return refuse(46, s.place.mark);
     }
-    let o = roll_at(limits, s.place.mark, s, stacks);
-    match o {
-        Rolled::Refused(f) => Fetched::Refused(f),
-        Rolled::Got {
-            starts: starts,
-            indents: i,
-        } => {
-            s.remove_key(stacks);
-            question_seen(stacks, s.flow_level);
-            let start = opening_if(starts, Opening::BlockMappingStart);
-            emit_indicator(
-                s.with_indents(i),
-                Note::Nothing,
-                start,
-                Kind::Key,
-                s.flow_level == 0,
-            )
-        }
-    }
+    let r = roll_at(limits, s.place.mark, s, stacks)?;
+    s.remove_key(stacks);
+    question_seen(stacks, s.flow_level);
+    let start = opening_if(r.starts, Opening::BlockMappingStart);
+    Ok(emit_indicator(
+        s.with_indents(r.indents),
+        Note::Nothing,
+        start,
+        Kind::Key,
+        s.flow_level == 0,
+    ))
 }
 
 // ':' came in this entry. Whether it begins a pair: the first of a sequence's entry, if no '?' came before it.
-fn colon_seen(stacks: &mut [u32], level: usize) -> bool
-    requires { (level ≤ 255) × (stack_words ≤ length stacks.old) }
+fn colon_seen(stacks: &mut [u32; STACK_WORDS], level: usize) -> bool
+    requires { level ≤ 255 }
     ensures { SeesColon stacks.old stacks.new level result }
 {
     let mut l = level_data(stacks, level);
@@ -183,61 +176,55 @@ fn value_with(
     number: u32,
     m: Mark,
     s: State,
-    stacks: &mut [u32],
-) -> Fetched
+    stacks: &mut [u32; STACK_WORDS],
+) -> Result<Fetched, Refusal>
     requires { Ready limits text.now stacks.old s × OneByte text.now s.place × (key_mark (key_of stacks.old s.flow_level) ≡ m) }
     ensures { (n : counts.Counts) → FetchesQuiet limits text.now stacks.old stacks.new (with_words limits stacks.old m s) n s (value_with limits number m (state_of text.now stacks.old n.count s)) result }
 {
-    let o = roll_at(limits, m, s, stacks);
-    match o {
-        Rolled::Refused(f) => Fetched::Refused(f),
-        Rolled::Got {
-            starts: starts,
-            indents: i,
-        } => {
-            clear_key(stacks, s.flow_level);
-            let pair = colon_seen(stacks, s.flow_level);
-            let note = note_of(number, pair, starts);
-            emit_indicator(
-                s.with_indents(i),
-                note,
-                Opening::Nothing,
-                Kind::Value,
-                false,
-            )
-        }
-    }
+    let r = roll_at(limits, m, s, stacks)?;
+    clear_key(stacks, s.flow_level);
+    let pair = colon_seen(stacks, s.flow_level);
+    let note = note_of(number, pair, r.starts);
+    Ok(emit_indicator(
+        s.with_indents(r.indents),
+        note,
+        Opening::Nothing,
+        Kind::Value,
+        false,
+    ))
 }
 
 // Without one. 46: at level 0 a simple key must be allowed.
-fn value_without(limits: Limits, text: &[u8], s: State, stacks: &mut [u32]) -> Fetched
+fn value_without(
+    limits: Limits,
+    text: &[u8],
+    s: State,
+    stacks: &mut [u32; STACK_WORDS],
+) -> Result<Fetched, Refusal>
     requires { Ready limits text.now stacks.old s × OneByte text.now s.place × (key_of stacks.old s.flow_level ≡ candidate.Absent) }
     ensures { (n : counts.Counts) → FetchesQuiet limits text.now stacks.old stacks.new (without_words limits stacks.old s) n s (value_without limits (state_of text.now stacks.old n.count s)) result }
 {
     if (s.flow_level == 0) & !s.simple_key_allowed {
         return refuse(46, s.place.mark);
     }
-    let o = roll_at(limits, s.place.mark, s, stacks);
-    match o {
-        Rolled::Refused(f) => Fetched::Refused(f),
-        Rolled::Got {
-            starts: starts,
-            indents: i,
-        } => {
-            let start = opening_of(colon_seen(stacks, s.flow_level), starts);
-            emit_indicator(
-                s.with_indents(i),
-                Note::Nothing,
-                start,
-                Kind::Value,
-                s.flow_level == 0,
-            )
-        }
-    }
+    let r = roll_at(limits, s.place.mark, s, stacks)?;
+    let start = opening_of(colon_seen(stacks, s.flow_level), r.starts);
+    Ok(emit_indicator(
+        s.with_indents(r.indents),
+        Note::Nothing,
+        start,
+        Kind::Value,
+        s.flow_level == 0,
+    ))
 }
 
 // ':'.
-pub fn fetch_value(limits: Limits, text: &[u8], s: State, stacks: &mut [u32]) -> Fetched
+pub fn fetch_value(
+    limits: Limits,
+    text: &[u8],
+    s: State,
+    stacks: &mut [u32; STACK_WORDS],
+) -> Result<Fetched, Refusal>
     requires { Ready limits text.now stacks.old s × OneByte text.now s.place }
     ensures { (n : counts.Counts) → FetchesQuiet limits text.now stacks.old stacks.new (colon_words limits stacks.old s) n s (fetch_value limits (state_of text.now stacks.old n.count s)) result }
 {

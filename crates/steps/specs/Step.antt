@@ -1,5 +1,6 @@
 -- The second half of a step, held against the definition: the token of a choice, and by the choice what it leaves in the lent words and bytes.
-use Rattle.std.specs.Prelude.{◌<◌, ◌^◌, ℕ, Bool, false, true, List}
+use Rattle.std.specs.Prelude.{◌<◌, ◌^◌, ℕ, Bool, false, true, List, Result}
+use Rattle.yaml_text.specs.declared.Refusal.{Refusal}
 use Rattle.yaml_scan.specs.declared.Choice.{Choice}
 use Rattle.yaml_scan.specs.declared.Choice.TheVariants.{AtAnchor, AtBlock, AtByteOrderMark, AtColon, AtComma, AtDash, AtDirective, AtEnd, AtMarker, AtPlain, AtQuestion, AtQuoted, AtTag, BelowIndent, Closes, Opens, Stray}
 use Rattle.yaml_scan.specs.declared.Limits.{Limits}
@@ -37,12 +38,12 @@ choice_words limits (AtBlock literal) a count s = saved_words a count s
 choice_words limits (AtQuoted single) a count s = saved_words a count s
 
 -- the token of the choice c, from the lent words a to e and the lent bytes `before` to `after`
-abbrev pub FetchesChoice : Limits → List ℕ → List ℕ → List ℕ → List ℕ → List ℕ → Counts → State → Choice → Fetched → Type 0
+abbrev pub FetchesChoice : Limits → List ℕ → List ℕ → List ℕ → List ℕ → List ℕ → Counts → State → Choice → Result Fetched Refusal → Type 0
 FetchesChoice limits text a e before after n s c r =
     FetchesText limits text a e (choice_words limits c a n.count s) before (choice_bytes c before n.used) after n s (fetch limits c (state_of text a n.count s)) r
 
 -- the same, c being the definition's own choice
-abbrev pub Steps : Limits → List ℕ → List ℕ → List ℕ → List ℕ → List ℕ → Counts → State → Choice → Fetched → Type 0
+abbrev pub Steps : Limits → List ℕ → List ℕ → List ℕ → List ℕ → List ℕ → Counts → State → Choice → Result Fetched Refusal → Type 0
 Steps limits text a e before after n s c r =
     FetchesText limits text a e (choice_words limits c a n.count s) before (choice_bytes c before n.used) after n s (fetch_next limits (state_of text a n.count s)) r
 

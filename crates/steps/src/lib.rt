@@ -7,15 +7,18 @@ ghost use Rattle.states.specs.Refused.{has_text};
 ghost use Rattle.steps.specs.Step.{Chosen, Steps, is_brief};
 
 use brackets::{fetch_flow_collection_end, fetch_flow_collection_start, fetch_flow_entry};
+use chars::refuse::refuse;
 use documents::{fetch_byte_order_mark, fetch_document_indicator, fetch_stream_end};
 use events::Counts;
 use indicators::{fetch_block_entry, fetch_key, fetch_value};
-use states::{Brief, Fetched, State, refuse};
+use stacks::STACK_WORDS;
+use states::{Brief, Fetched, State};
 use text_tokens::{
     fetch_anchor, fetch_block_scalar, fetch_directive, fetch_flow_scalar, fetch_plain_scalar,
     fetch_tag,
 };
 use yaml_scan::{Choice, Limits};
+use yaml_text::Refusal;
 
 // The lexemes that hold text, but plain scalars.
 fn fetch_content(
@@ -24,9 +27,9 @@ fn fetch_content(
     c: Choice,
     s: State,
     n: Counts,
-    stacks: &mut [u32],
+    stacks: &mut [u32; STACK_WORDS],
     bytes: &mut [u8],
-) -> Fetched
+) -> Result<Fetched, Refusal>
     requires { Chosen limits text.now stacks.old n.used s c × (is_brief c ≡ false) × (has_text c ≡ true) }
     ensures { Steps limits text.now stacks.old stacks.new bytes.old bytes.new n s c result }
 {
@@ -48,9 +51,9 @@ pub fn fetch_other(
     c: Choice,
     s: State,
     n: Counts,
-    stacks: &mut [u32],
+    stacks: &mut [u32; STACK_WORDS],
     bytes: &mut [u8],
-) -> Fetched
+) -> Result<Fetched, Refusal>
     requires { Chosen limits text.now stacks.old n.used s c × (is_brief c ≡ false) }
     ensures { Steps limits text.now stacks.old stacks.new bytes.old bytes.new n s c result }
 {
@@ -87,14 +90,14 @@ pub fn fetch_brief(
     c: Choice,
     s: State,
     n: Counts,
-    stacks: &mut [u32],
+    stacks: &mut [u32; STACK_WORDS],
     bytes: &mut [u8],
-) -> Brief
+) -> Result<Brief, Refusal>
     requires { Chosen limits text.now stacks.old n.used s c × (is_brief c ≡ true) }
     ensures { Steps limits text.now stacks.old stacks.new bytes.old bytes.new n s c (brief_fetched result) }
 {
     match c {
-        Choice::AtPlain => fetch_plain_scalar(limits, text, s, n, stacks, bytes),
+        Choice::AtPlain => Ok(fetch_plain_scalar(limits, text, s, n, stacks, bytes)),
         Choice::AtDash => fetch_block_entry(limits, text, s, stacks),
         Choice::Opens { sequence } => fetch_flow_collection_start(
             limits, text, sequence, s, n, stacks,

@@ -1,53 +1,41 @@
--- What the fetchers of a lexeme answer by what was read, what they make of the lent words, and their contract.
-use Rattle.std.specs.Prelude.{◌+◌, ◌<◌, ◌^◌, ℕ, false, true, List, ◌≡◌}
+-- The contract of the fetchers of a lexeme, and what is lent to the reader of one.
+use Rattle.std.specs.Prelude.{ℕ, List, ◌≡◌, Result, length}
+use Rattle.std.specs.Fn.{Once}
+use denote.Ref.{Bor, MutBor}
+use Rattle.yaml_text.specs.declared.Refusal.{Refusal}
 use Rattle.yaml_text.specs.Refusal.{Read}
 use Rattle.yaml_scan.specs.declared.Limits.{Limits}
 use Rattle.yaml_scan.specs.State.{News}
 use Rattle.yaml_scan.specs.State as definition
-use Rattle.chars.specs.declared.mark.Place.{Place}
 use Rattle.rooms.specs.Room.{cleared}
-use Rattle.reading.specs.declared.Lexeme.{Lexeme}
-use Rattle.reading.specs.declared.Reading.{Reading}
-use Rattle.reading.specs.declared.Reading.TheVariants as reading
-use Rattle.stacks.specs.declared.indent.Unrolled.{Unrolled}
 use Rattle.events.specs.declared.Counts.{Counts}
-use Rattle.events.specs.Event.{closing_of}
 use Rattle.states.specs.declared.Fetched.{Fetched}
-use Rattle.states.specs.declared.Fetched.TheVariants.{Goes, Refused}
 use Rattle.states.specs.declared.State.{State}
 use Rattle.states.specs.Fetch.{FetchesText}
-use Rattle.states.specs.Key.{Saves, saved_words}
-use Rattle.states.specs.State.{behind_of, state_of}
-use Rattle.documents.specs.Leave.{LeavesBlocks, goes_outside}
+use Rattle.states.specs.Key.{saved_words}
+use Rattle.states.specs.Lexed.{back, clipped, part}
+use Rattle.states.specs.State.{state_of}
 
--- the place behind what was read from p on wraps nowhere
-abbrev pub PlaceFits : Place → Reading → Type 0
-PlaceFits p (reading.Got l) = (p.at + l.next.at < 2 ^ 63) × (l.next.mark.index < 2 ^ 31)
-PlaceFits p (reading.Refused f) = Unit {0}
+-- a reader, which is called once, at a text and at bytes that are lent to it
+abbrev pub Reader : Type 0 → Type 0 → Type 1
+Reader F R = Once F (Bor (List ℕ) × (MutBor (List ℕ) × Unit {0})) (R × (MutBor (List ℕ) × Unit {0}))
 
--- by what was read from p on: a token behind n ends of blocks, and the state behind it; or a refusal
-unfoldable pub fetched_of : (Place → State) → ℕ → Place → Reading → Fetched
-fetched_of t n p (reading.Got l) = Goes (closing_of n l.token) (t (behind_of p l.next))
-fetched_of t n p (reading.Refused f) = Refused f
+-- the reader f may be called at the text `rest`, where the bytes `lent` are lent to it
+abbrev pub TakesLent : {F R : Type 0} → Reader F R → F → List ℕ → List ℕ → Type 0
+TakesLent g f rest lent = (t : Bor (List ℕ)) (b : MutBor (List ℕ)) → t.now ≡ rest → b.now ≡ lent → g.pre f (t, (b, tt))
 
--- the candidate of s is saved where a lexeme was read, from the words a to e; at a refusal they stay
-abbrev pub SavesRead : List ℕ → List ℕ → ℕ → State → Reading → Type 0
-SavesRead a e count s (reading.Got l) = Saves a e count s
-SavesRead a e count s (reading.Refused f) = e ≡ a
-
--- all blocks are left where a directive was read, from the words a to e, and it goes on behind it; at a refusal they stay
-
-pub record Left (a e : List ℕ) (s : State) (l : Lexeme) (v : Fetched) : Type 0 where
-  pub unrolled : Unrolled
-  pub leaves : LeavesBlocks a e s unrolled
-  pub same : v ≡ goes_outside s unrolled (behind_of s.place l.next) true false l.token
-
-abbrev pub LeftRead : List ℕ → List ℕ → State → Reading → Fetched → Type 0
-LeftRead a e s (reading.Got l) v = Left a e s l v
-LeftRead a e s (reading.Refused f) v = (e ≡ a) × (v ≡ Refused f)
+-- r is what the reader f answers of the text `rest`, where the unused end of the bytes `before` is lent to it, which are `after` then
+pub record ReadsLent {F R : Type 0} (g : Reader F R) (f : F) (rest before after : List ℕ) (used : ℕ) (r : R) : Type 0 where
+  pub shown : Bor (List ℕ)
+  pub shows : shown.now ≡ rest
+  pub lent : MutBor (List ℕ)
+  pub lends : lent.now ≡ part (clipped used (length before)) before
+  pub left : MutBor (List ℕ)
+  pub met : g.post f (shown, (lent, tt)) (r, (left, tt))
+  pub leaves : after ≡ back (clipped used (length before)) before left.now
 
 -- a fetcher that saves a candidate: from the lent words a to e and the lent bytes `before` to `after`, which at a refusal are zeros
 -- behind those used so far; the definition's fetcher is f
-abbrev pub FetchesSaved : Limits → List ℕ → List ℕ → List ℕ → List ℕ → List ℕ → Counts → State → (definition.State → Read News) → Fetched → Type 0
+abbrev pub FetchesSaved : Limits → List ℕ → List ℕ → List ℕ → List ℕ → List ℕ → Counts → State → (definition.State → Read News) → Result Fetched Refusal → Type 0
 FetchesSaved limits text a e before after n s f r =
     FetchesText limits text a e (saved_words a n.count s) before (cleared before n.used) after n s (f (state_of text a n.count s)) r
