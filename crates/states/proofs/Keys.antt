@@ -1,5 +1,6 @@
 -- Laws of the candidate: when it is required, when it is stale, how it is saved and how it goes. Its frame is stored, and the rest stays.
 use Prim.Native.Nat.{◌+◌, ◌-◌, ◌<◌, ◌≤◌, ℕ}
+use Rattle.std.specs.Prelude.{Ok, Err}
 use mathlib.Core.Bool.{Bool, false, true}
 use mathlib.Core.List.{List, ◌∷◌}
 use mathlib.Core.Path.{◌∙◌, ◌≡◌, ap, sym}
@@ -18,7 +19,6 @@ use Rattle.stacks.specs.Stack.{entry_words}
 use Rattle.stacks.specs.Frame.{SetsKey, frame_keys, key_of}
 use Rattle.stacks.specs.Indent.{entries_of}
 use Rattle.stacks.proofs.Entries.{entries_stay_same}
-use Rattle.states.specs.declared.Lapsed.TheVariants as lapsed
 use Rattle.states.specs.declared.State.{State}
 use Rattle.states.specs.State.{required_of, state_of}
 use Rattle.states.specs.Seen.{in_flow_seen}
@@ -88,7 +88,7 @@ module _ (a : List ℕ) (s : State) where
   unfolding removed_words remove_key frame_keys
   removes h w = record { words = w.words; same = λ text count. key_seen s w h text count; sets = w }
 
-  pub lapses_flow : 0 < s.flow_level → Lapses a a s lapsed.Passed
+  pub lapses_flow : 0 < s.flow_level → Lapses a a s (Ok tt)
   unfolding lapsed_words lapsed_seen lapse_key
   lapses_flow h =
       let t = lt-ltb 0 s.flow_level h in
@@ -105,7 +105,7 @@ module _ (a : List ℕ) (s : State) where
     outside text count = rw (in_flow_seen text a count s, le-ltb 0 s.flow_level h, lapse_key)
 
     stays : lapses_at s.place.mark (key_of a s.flow_level) ≡ false → lapse s.place.mark (key_of a s.flow_level) ≡ got (key_of a s.flow_level)
-        → Lapses a a s lapsed.Passed
+        → Lapses a a s (Ok tt)
     unfolding lapsed_words lapsed_seen frame_keys ◌>>=◌
     stays t f =
         record {
@@ -114,17 +114,17 @@ module _ (a : List ℕ) (s : State) where
           entries = entries_stay_same a;
         }
 
-    pub lapses_none : key_of a s.flow_level ≡ Absent → Lapses a a s lapsed.Passed
+    pub lapses_none : key_of a s.flow_level ≡ Absent → Lapses a a s (Ok tt)
     unfolding lapses_at lapse
     lapses_none f = stays (rw f) (rw f)
 
     module _ (required : Bool) (n : ℕ) (k : Mark) (f : key_of a s.flow_level ≡ Possible required n k) where
-      pub lapses_fresh : stale k s.place.mark ≡ false → Lapses a a s lapsed.Passed
+      pub lapses_fresh : stale k s.place.mark ≡ false → Lapses a a s (Ok tt)
       unfolding lapses_at lapse
       lapses_fresh t = stays (rw (f, t)) (rw (f, lapse, t))
 
       module _ (t : stale k s.place.mark ≡ true) where
-        pub lapses_refused : required ≡ true → Lapses a a s (lapsed.Refused (record { number = 41; mark = s.place.mark }))
+        pub lapses_refused : required ≡ true → Lapses a a s (Err (record { number = 41; mark = s.place.mark }))
         unfolding lapsed_words lapses_at lapsed_seen lapse need ◌>>=◌
         lapses_refused q =
             record {
@@ -133,7 +133,7 @@ module _ (a : List ℕ) (s : State) where
               entries = entries_stay_same a;
             }
 
-        pub lapses_stale : {e : List ℕ} → required ≡ false → Removes a e s → Lapses a e s lapsed.Passed
+        pub lapses_stale : {e : List ℕ} → required ≡ false → Removes a e s → Lapses a e s (Ok tt)
         unfolding lapsed_words lapses_at lapsed_seen lapse need remove_key frame_keys ◌>>=◌
         lapses_stale q w =
             record {

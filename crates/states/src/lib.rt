@@ -188,22 +188,21 @@ impl State {
         if 0 < self.flow_level {
             return Ok(());
         }
-        let k = key(stacks, self.flow_level);
         let Candidate::Possible {
             required,
             token_number: _,
             mark,
-        } = k
+        } = key(stacks, self.flow_level)
         else {
             return Ok(());
         };
-        if self.is_stale(mark) {
-            if required {
-                return refuse(41, self.place.mark);
-            }
-            self.remove_key(stacks);
+        if !self.is_stale(mark) {
             return Ok(());
         }
+        if required {
+            return refuse(41, self.place.mark);
+        }
+        self.remove_key(stacks);
         Ok(())
     }
 }

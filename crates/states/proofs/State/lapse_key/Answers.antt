@@ -7,13 +7,13 @@ pub returns-then-self-gt0 : goal.returns-then-self-gt0
 returns-then-self-gt0 c = let a = c.args in lapses_flow a.stacks.now a.self c.if-self-gt0.true
 
 pub returns-in_default : goal.returns-in_default
-returns-in_default c = lapses_none c.args.stacks.now c.args.self c.if-self-gt0.false (sym c.key-k.ensures ∙ c.in_default.is)
+returns-in_default c = lapses_none c.args.stacks.now c.args.self c.if-self-gt0.false (sym c.key.ensures ∙ c.in_default.is)
+
+pub returns-then-not-is_stale : goal.returns-then-not-is_stale
+returns-then-not-is_stale c = lapses_fresh c.args.stacks.now c.args.self c.if-self-gt0.false _ _ _ (sym c.key.ensures ∙ c.in-Possible.is) (sym c.is_stale.ensures ∙ c.if-not-is_stale.true)
 
 pub returns-then-required : goal.returns-then-required
-returns-then-required c = lapses_refused c.args.stacks.now c.args.self c.if-self-gt0.false _ _ _ (sym c.key-k.ensures ∙ c.in-Possible.is) (sym c.is_stale.ensures ∙ c.if-is_stale.true) c.if-required.true
-
-pub returns-then-is_stale : goal.returns-then-is_stale
-returns-then-is_stale c = lapses_stale c.args.stacks.now c.args.self c.if-self-gt0.false _ _ _ (sym c.key-k.ensures ∙ c.in-Possible.is) (sym c.is_stale.ensures ∙ c.if-is_stale.true) c.if-required.false c.remove_key.ensures
+returns-then-required c = rw c.refuse.ensures (lapses_refused c.args.stacks.now c.args.self c.if-self-gt0.false _ _ _ (sym c.key.ensures ∙ c.in-Possible.is) (sym c.is_stale.ensures ∙ c.if-not-is_stale.false) c.if-required.true)
 
 pub returns : goal.returns
-returns c = lapses_fresh c.args.stacks.now c.args.self c.if-self-gt0.false _ _ _ (sym c.key-k.ensures ∙ c.in-Possible.is) (sym c.is_stale.ensures ∙ c.if-is_stale.false)
+returns c = lapses_stale c.args.stacks.now c.args.self c.if-self-gt0.false _ _ _ (sym c.key.ensures ∙ c.in-Possible.is) (sym c.is_stale.ensures ∙ c.if-not-is_stale.false) c.if-required.false c.remove_key.ensures
