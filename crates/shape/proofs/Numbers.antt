@@ -9,11 +9,11 @@ use lib.Dec.{eqb, leb}
 use lib.ListN.{drop, drop_of_length-le, get_or, length}
 use lib.Seq.{drop-cons}
 use borrow.Author.Tests.{le-leb, leb-true, lt-leb, not-false, not-true}
+use Rattle.std.specs.Prelude.{None, Some}
 use Rattle.yaml_text.specs.Char.{'0'}
 use Rattle.yaml_text.specs.Class.{is_digit}
 use Rattle.yaml_text.specs.Test.{both_true, by_test}
 use Rattle.yaml_job.specs.Job.{all_digits, is_number, most_seed, value_from, well_led}
-use Rattle.shape.specs.declared.number.Number.TheVariants.{NoNumber, Value}
 use Rattle.shape.specs.Number.{number_from, number_in}
 
 pub digit_least : (c : ℕ) → is_digit c ≡ true → '0' ≤ c
@@ -26,7 +26,7 @@ unfolding value_from
 grows n [] = omega arith
 grows n (d ∷ ds) = let h = grows (n * 10 + (d - '0')) ds in omega arith
 
-too_large : (n : ℕ) (ds : List ℕ) → most_seed < n → number_from n ds ≡ NoNumber
+too_large : (n : ℕ) (ds : List ℕ) → most_seed < n → number_from n ds ≡ None
 unfolding number_from
 too_large n ds h =
     let g = grows n ds in
@@ -43,12 +43,12 @@ pub counting_start : (s : List ℕ) → Counting s 0 0
 counting_start s = record { within = omega arith; small = omega arith; whole = refl }
 
 module _ {s : List ℕ} {v i : ℕ} (w : Counting s v i) where
-  pub counting_done : length s ≤ i → Value v ≡ number_from 0 s
+  pub counting_done : length s ≤ i → Some v ≡ number_from 0 s
   unfolding number_from all_digits value_from
   counting_done h = sym (w.whole ∙ rw (drop_of_length-le s h, le-leb v most_seed w.small))
 
   module _ (h : i < length s) where
-    pub counting_stop : is_digit (get_or s i 0) ≡ false → NoNumber ≡ number_from 0 s
+    pub counting_stop : is_digit (get_or s i 0) ≡ false → None ≡ number_from 0 s
     unfolding number_from all_digits
     counting_stop e = sym (w.whole ∙ rw (drop-cons s i 0 h, e))
 
@@ -59,7 +59,7 @@ module _ {s : List ℕ} {v i : ℕ} (w : Counting s v i) where
     pub counting_more : is_digit (get_or s i 0) ≡ true → v * 10 + (get_or s i 0 - '0') ≤ most_seed → Counting s (v * 10 + (get_or s i 0 - '0')) (i + 1)
     counting_more e k = record { within = omega arith; small = k; whole = more e }
 
-    pub counting_large : is_digit (get_or s i 0) ≡ true → most_seed < v * 10 + (get_or s i 0 - '0') → NoNumber ≡ number_from 0 s
+    pub counting_large : is_digit (get_or s i 0) ≡ true → most_seed < v * 10 + (get_or s i 0 - '0') → None ≡ number_from 0 s
     counting_large e k = sym (more e ∙ too_large _ _ k)
 
 -- how a text is led
@@ -80,7 +80,7 @@ led_more [] h k = absurd (h refl)
 led_more (d ∷ []) h k = absurd (k refl)
 led_more (d ∷ f ∷ ds) h k = by_test (eqb d '0') (λ e. rw e) (λ e. rw e)
 
-pub number_badly_led : (s : List ℕ) → not (well_led s) ≡ true → NoNumber ≡ number_in s
+pub number_badly_led : (s : List ℕ) → not (well_led s) ≡ true → None ≡ number_in s
 unfolding is_number
 number_badly_led s e = rw (not-true (well_led s) e)
 

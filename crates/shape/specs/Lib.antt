@@ -1,2 +1,2 @@
 pub mod Number
-pub mod Sight
+pub mod Kind

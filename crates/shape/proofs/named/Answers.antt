@@ -1,31 +1,36 @@
 -- By the name.
-use mathlib.Core.Bool.{false}
-use mathlib.Core.Path.{◌∙◌, ◌≡◌, sym}
+use Rattle.std.proofs.Common.{◌≡◌, false, true}
 use Rattle.yaml_text.specs.Class.{same}
-use Rattle.yaml_job.specs.declared.Field.TheVariants.{Panel, Sample}
+use Rattle.yaml_job.specs.declared.Field.TheVariants.{Panel, Sample, Seeds}
 use Rattle.yaml_job.specs.Job.{named, spelled}
+use Rattle.shape.proofs.Names.{told}
 use Rattle.shape.proofs.named.Goals as goal
 
-pub returns-then-same_bytes : goal.returns-then-same_bytes
+pub returns-then-eq : goal.returns-then-eq
 unfolding named spelled
-returns-then-same_bytes c = rw (c.meets.ensures, sym c.same_bytes.ensures ∙ c.if-same_bytes.true, named)
+returns-then-eq c =
+    let is-sample : same c.args.text.now (spelled Sample) ≡ true = told _ c.eq.ensures c.as_slice.ensures c.if-eq.true in
+    rw (c.meets.ensures, is-sample, named)
 
-pub returns-then-same_bytes-2 : goal.returns-then-same_bytes-2
+pub returns-then-eq-2 : goal.returns-then-eq-2
 unfolding named spelled
-returns-then-same_bytes-2 c =
-    let no-sample : same (c.args.text.now) (spelled Sample) ≡ false = sym c.same_bytes.ensures ∙ c.if-same_bytes.false in
-    rw (c.meets-then-same_bytes-2.ensures, no-sample, sym c.same_bytes-2.ensures ∙ c.if-same_bytes-2.true, named)
+returns-then-eq-2 c =
+    let no-sample : same c.args.text.now (spelled Sample) ≡ false = told _ c.eq.ensures c.as_slice.ensures c.if-eq.false in
+    let is-panel : same c.args.text.now (spelled Panel) ≡ true = told _ c.eq-2.ensures c.as_slice-2.ensures c.if-eq-2.true in
+    rw (c.meets-then-eq-2.ensures, no-sample, is-panel, named)
 
-pub returns-then-same_bytes-3 : goal.returns-then-same_bytes-3
+pub returns-then-eq-3 : goal.returns-then-eq-3
 unfolding named spelled
-returns-then-same_bytes-3 c =
-    let no-sample : same (c.args.text.now) (spelled Sample) ≡ false = sym c.same_bytes.ensures ∙ c.if-same_bytes.false in
-    let no-panel : same (c.args.text.now) (spelled Panel) ≡ false = sym c.same_bytes-2.ensures ∙ c.if-same_bytes-2.false in
-    rw (c.meets-then-same_bytes-3.ensures, no-sample, no-panel, sym c.same_bytes-3.ensures ∙ c.if-same_bytes-3.true, named)
+returns-then-eq-3 c =
+    let no-sample : same c.args.text.now (spelled Sample) ≡ false = told _ c.eq.ensures c.as_slice.ensures c.if-eq.false in
+    let no-panel : same c.args.text.now (spelled Panel) ≡ false = told _ c.eq-2.ensures c.as_slice-2.ensures c.if-eq-2.false in
+    let is-seeds : same c.args.text.now (spelled Seeds) ≡ true = told _ c.eq-3.ensures c.as_slice-3.ensures c.if-eq-3.true in
+    rw (c.meets-then-eq-3.ensures, no-sample, no-panel, is-seeds, named)
 
 pub returns : goal.returns
 unfolding named spelled
 returns c =
-    let no-sample : same (c.args.text.now) (spelled Sample) ≡ false = sym c.same_bytes.ensures ∙ c.if-same_bytes.false in
-    let no-panel : same (c.args.text.now) (spelled Panel) ≡ false = sym c.same_bytes-2.ensures ∙ c.if-same_bytes-2.false in
-    rw (no-sample, no-panel, sym c.same_bytes-3.ensures ∙ c.if-same_bytes-3.false, named)
+    let no-sample : same c.args.text.now (spelled Sample) ≡ false = told _ c.eq.ensures c.as_slice.ensures c.if-eq.false in
+    let no-panel : same c.args.text.now (spelled Panel) ≡ false = told _ c.eq-2.ensures c.as_slice-2.ensures c.if-eq-2.false in
+    let no-seeds : same c.args.text.now (spelled Seeds) ≡ false = told _ c.eq-3.ensures c.as_slice-3.ensures c.if-eq-3.false in
+    rw (no-sample, no-panel, no-seeds, named)
