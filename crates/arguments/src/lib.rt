@@ -3,18 +3,17 @@
 
 pub mod word;
 
-ghost use Rattle.io.specs.Counts.{IsPrefixLen};
-
+use crate::word::{MOST_WORD, Word, word_at};
 use std::env::FillError;
 use std::rt::Env;
-use word::{Word, is, word_at};
+use std::str::from_utf8;
 
-// Which words name the sheet, the record's file and the seeds' file, by their numbers; 0 where none does. Whether an empty list of seeds is allowed.
+// Which words name the sheet, the record's file and the seeds' file, by their numbers. Whether an empty list of seeds is allowed.
 #[derive(Clone, Copy)]
 pub struct Plan {
-    pub sheet: usize,
-    pub record: usize,
-    pub seeds: usize,
+    pub sheet: Option<usize>,
+    pub record: Option<usize>,
+    pub seeds: Option<usize>,
     pub allowed: bool,
 }
 
@@ -38,11 +37,11 @@ pub enum Fault {
     Help,
 }
 
-// What the words come to.
+// The word that is wrong, by its number.
 #[derive(Clone, Copy)]
-pub enum Arguments {
-    Plan(Plan),
-    Wrong { fault: Fault, at: usize },
+pub struct Wrong {
+    pub fault: Fault,
+    pub at: usize,
 }
 
 // What the next word is for.
@@ -56,13 +55,6 @@ enum Wants {
     Sheet,
 }
 
-// What one more word comes to.
-#[derive(Clone, Copy)]
-enum Taken {
-    Goes { plan: Plan, wants: Wants },
-    Stops { fault: Fault, at: usize },
-}
-
 // The words behind `job`, or those behind `tokens`, which has no options.
 #[derive(Clone, Copy)]
 pub enum Verb {
@@ -70,156 +62,120 @@ pub enum Verb {
     Tokens,
 }
 
-fn stops(fault: Fault, at: usize) -> Taken {
-    Taken::Stops {
-        fault: fault,
-        at: at,
-    }
+// The words so far.
+#[derive(Clone, Copy)]
+struct Taken {
+    plan: Plan,
+    wants: Wants,
 }
 
-fn take_sheet(plan: Plan, wants: Wants, at: usize) -> Taken {
-    if plan.sheet != 0 {
-        return stops(Fault::Second, at);
-    }
-    Taken::Goes {
-        plan: Plan {
-            sheet: at,
-            record: plan.record,
-            seeds: plan.seeds,
-            allowed: plan.allowed,
-        },
-        wants: wants,
-    }
+fn fails<T>(fault: Fault, at: usize) -> Result<T, Wrong> {
+    Err(Wrong { fault, at })
 }
 
-fn take_record(plan: Plan, at: usize) -> Taken {
-    Taken::Goes {
-        plan: Plan {
-            sheet: plan.sheet,
-            record: at,
-            seeds: plan.seeds,
-            allowed: plan.allowed,
-        },
-        wants: Wants::Anything,
+impl Taken {
+    fn wanting(self, wants: Wants) -> Taken {
+        Taken {
+            plan: self.plan,
+            wants,
+        }
     }
-}
 
-fn take_seeds(plan: Plan, at: usize) -> Taken {
-    Taken::Goes {
-        plan: Plan {
-            sheet: plan.sheet,
-            record: plan.record,
-            seeds: at,
-            allowed: plan.allowed,
-        },
-        wants: Wants::Anything,
+    fn take_sheet(self, at: usize) -> Result<Taken, Wrong> {
+        if self.plan.sheet.is_some() {
+            return fails(Fault::Second, at);
+        }
+        let sheet = Some(at);
+        let plan = Plan { sheet, ..self.plan };
+        Ok(Taken { plan, ..self })
     }
-}
 
-fn allow(plan: Plan, at: usize) -> Taken {
-    if plan.allowed {
-        return stops(Fault::Again, at);
+    // An option that takes a FILE, which is given once.
+    fn want_file(
+        self,
+        before: Option<usize>,
+        wants: Wants,
+        at: usize,
+    ) -> Result<Taken, Wrong> {
+        if before.is_some() {
+            return fails(Fault::Again, at);
+        }
+        Ok(self.wanting(wants))
     }
-    Taken::Goes {
-        plan: Plan {
-            sheet: plan.sheet,
-            record: plan.record,
-            seeds: plan.seeds,
+
+    fn allow(self, at: usize) -> Result<Taken, Wrong> {
+        if self.plan.allowed {
+            return fails(Fault::Again, at);
+        }
+        let plan = Plan {
             allowed: true,
-        },
-        wants: Wants::Anything,
+            ..self.plan
+        };
+        Ok(Taken { plan, ..self })
+    }
+
+    fn take_option(self, w: Word, at: usize) -> Result<Taken, Wrong> {
+        match w {
+            Word::Record => self.want_file(self.plan.record, Wants::Record, at),
+            Word::Seeds => self.want_file(self.plan.seeds, Wants::Seeds, at),
+            Word::AllowEmpty => self.allow(at),
+            _ => no_name(w, at, Fault::Unknown, at),
+        }
+    }
+
+    fn take_any(self, verb: Verb, w: Word, at: usize) -> Result<Taken, Wrong> {
+        match w {
+            Word::Name => self.take_sheet(at),
+            Word::Dashes => Ok(self.wanting(Wants::Sheet)),
+            _ => match verb {
+                Verb::Job => self.take_option(w, at),
+                Verb::Tokens => no_name(w, at, Fault::Unknown, at),
+            },
+        }
+    }
+
+    // The FILE of an option.
+    fn take_file(self, plan: Plan, w: Word, at: usize) -> Result<Taken, Wrong> {
+        match w {
+            Word::Name => Ok(Taken {
+                plan,
+                wants: Wants::Anything,
+            }),
+            _ => no_name(w, at, Fault::NoFile, at.saturating_sub(1)),
+        }
+    }
+
+    // Behind `--` every word is a name.
+    fn take_last(self, w: Word, at: usize) -> Result<Taken, Wrong> {
+        match w {
+            Word::Empty => fails(Fault::Empty, at),
+            Word::Long => fails(Fault::Long, at),
+            Word::NoText { .. } => fails(Fault::NoText, at),
+            _ => self.take_sheet(at),
+        }
+    }
+
+    // One word more.
+    fn take_word(self, rt: &HostRuntime, verb: Verb, at: usize) -> Result<Taken, Wrong> {
+        let w = word_at(rt, at);
+        let named = Some(at);
+        match self.wants {
+            Wants::Anything => self.take_any(verb, w, at),
+            Wants::Record => self.take_file(Plan { record: named, ..self.plan }, w, at),
+            Wants::Seeds => self.take_file(Plan { seeds: named, ..self.plan }, w, at),
+            Wants::Sheet => self.take_last(w, at),
+        }
     }
 }
 
 // A word that is no name, where a name must stand.
-fn no_name(w: Word, at: usize, other: Fault, other_at: usize) -> Taken {
+fn no_name(w: Word, at: usize, other: Fault, other_at: usize) -> Result<Taken, Wrong> {
     match w {
-        Word::Empty => stops(Fault::Empty, at),
-        Word::Long => stops(Fault::Long, at),
-        Word::NoText => stops(Fault::NoText, at),
-        Word::Help => stops(Fault::Help, at),
-        _ => stops(other, other_at),
-    }
-}
-
-fn wants_file(plan: Plan, before: usize, wants: Wants, at: usize) -> Taken {
-    if before != 0 {
-        return stops(Fault::Again, at);
-    }
-    Taken::Goes {
-        plan: plan,
-        wants: wants,
-    }
-}
-
-fn take_any(verb: Verb, plan: Plan, w: Word, at: usize) -> Taken {
-    match w {
-        Word::Name => take_sheet(plan, Wants::Anything, at),
-        Word::Dashes => Taken::Goes {
-            plan: plan,
-            wants: Wants::Sheet,
-        },
-        _ => match verb {
-            Verb::Job => take_option(plan, w, at),
-            Verb::Tokens => no_name(w, at, Fault::Unknown, at),
-        },
-    }
-}
-
-fn take_option(plan: Plan, w: Word, at: usize) -> Taken {
-    match w {
-        Word::Record => wants_file(plan, plan.record, Wants::Record, at),
-        Word::Seeds => wants_file(plan, plan.seeds, Wants::Seeds, at),
-        Word::AllowEmpty => allow(plan, at),
-        _ => no_name(w, at, Fault::Unknown, at),
-    }
-}
-
-// The FILE of an option, which stands before it.
-fn take_file(plan: Plan, for_record: bool, w: Word, at: usize) -> Taken {
-    match w {
-        Word::Name => {
-            if for_record {
-                take_record(plan, at)
-            } else {
-                take_seeds(plan, at)
-            }
-        }
-        _ => no_name(w, at, Fault::NoFile, before(at)),
-    }
-}
-
-fn before(at: usize) -> usize {
-    if at == 0 { 0 } else { at - 1 }
-}
-
-// Behind `--` every word is a name.
-fn take_last(plan: Plan, w: Word, at: usize) -> Taken {
-    match w {
-        Word::Empty => stops(Fault::Empty, at),
-        Word::Long => stops(Fault::Long, at),
-        Word::NoText | Word::OtherNoText => stops(Fault::NoText, at),
-        _ => take_sheet(plan, Wants::Sheet, at),
-    }
-}
-
-fn take_word(rt: &HostRuntime, verb: Verb, plan: Plan, wants: Wants, at: usize) -> Taken {
-    let w = word_at(rt, at);
-    match wants {
-        Wants::Anything => take_any(verb, plan, w, at),
-        Wants::Record => take_file(plan, true, w, at),
-        Wants::Seeds => take_file(plan, false, w, at),
-        Wants::Sheet => take_last(plan, w, at),
-    }
-}
-
-fn at_end(plan: Plan, wants: Wants, count: usize) -> Arguments {
-    match wants {
-        Wants::Record | Wants::Seeds => Arguments::Wrong {
-            fault: Fault::NoFile,
-            at: before(count),
-        },
-        _ => Arguments::Plan(plan),
+        Word::Empty => fails(Fault::Empty, at),
+        Word::Long => fails(Fault::Long, at),
+        Word::NoText { dash: false } => fails(Fault::NoText, at),
+        Word::Help => fails(Fault::Help, at),
+        _ => fails(other, other_at),
     }
 }
 
@@ -242,58 +198,39 @@ pub fn count(rt: &HostRuntime) -> usize {
 }
 
 // The words from the second on: the first is `job` or `tokens`.
-pub fn read_arguments(rt: &HostRuntime, verb: Verb) -> Arguments {
+pub fn read_arguments(rt: &HostRuntime, verb: Verb) -> Result<Plan, Wrong> {
     let count = count(rt);
-    let mut plan = Plan {
-        sheet: 0,
-        record: 0,
-        seeds: 0,
-        allowed: false,
+    let mut taken = Taken {
+        plan: Plan {
+            sheet: None,
+            record: None,
+            seeds: None,
+            allowed: false,
+        },
+        wants: Wants::Anything,
     };
-    let mut wants = Wants::Anything;
-    let mut i = 2;
-    while i < count {
-        let t = take_word(rt, verb, plan, wants, i);
-        match t {
-            Taken::Goes {
-                plan: next,
-                wants: then,
-            } => {
-                plan = next;
-                wants = then;
-            }
-            Taken::Stops { fault, at } => {
-                return Arguments::Wrong {
-                    fault: fault,
-                    at: at,
-                };
-            }
-        }
-        i += 1;
+    for at in 2..count {
+        taken = taken.take_word(rt, verb, at)?;
     }
-    at_end(plan, wants, count)
-}
-
-// A word of the command line, by its number: how long it is; 0 for one that is missing or has more bytes than the space.
-pub fn copy_word(rt: &HostRuntime, at: usize, space: &mut [u8]) -> usize
-    ensures { IsPrefixLen result space.new }
-{
-    match rt.arg(at, space) {
-        Ok(n) => n,
-        Err(_) => 0,
+    match taken.wants {
+        Wants::Record | Wants::Seeds => fails(Fault::NoFile, count.saturating_sub(1)),
+        _ => Ok(taken.plan),
     }
 }
 
-// The same of a name; 0 for the number 0 and for `-`.
-pub fn name_at(rt: &HostRuntime, at: usize, space: &mut [u8]) -> usize
-    ensures { IsPrefixLen result space.new }
-{
-    if at == 0 {
-        return 0;
-    }
-    let n = copy_word(rt, at, space);
-    if is(&space[..n], b"-") {
-        return 0;
-    }
-    n
+// A word of the command line, by its number; none where it is missing or has more bytes than the space.
+pub fn copy_word<'a>(rt: &HostRuntime, at: usize, space: &'a mut [u8]) -> Option<&'a [u8]> {
+    let n = rt.arg(at, space).ok()?;
+    Some(&space[..n])
+}
+
+// The name of a file that a word is; none for `-`, which is standard input or output.
+pub fn name_at<'a>(
+    rt: &HostRuntime,
+    at: Option<usize>,
+    space: &'a mut [u8; MOST_WORD],
+) -> Option<&'a str> {
+    let word = copy_word(rt, at?, space)?;
+    let name = from_utf8(word).ok()?;
+    if name == "-" { None } else { Some(name) }
 }

@@ -1,33 +1,35 @@
 // Files that stand whole in their place or not there: each is written beside its place under a name of its own, and takes its place when all of it is kept.
 #![tactic(auto)]
 
-ghost use Rattle.io.specs.Counts.{IsPrefixLen};
-
 use identity::{is_same, of_name};
-use outlets::{Outlet, fail, path};
-use rooms::copy;
+use outlets::{Outlet, fail};
+use std::fmt::InlineText;
 use std::fs::{File, Metadata, OpenOptions};
 use std::os::unix::fs::FileTypeExt;
 use std::random::RandomSource;
+use std::str::from_utf8;
 use std::{fs, io};
 
 // Room for a name of up to 4,096 bytes, and what a file's own name has behind it.
-pub const NAME_ROOM: usize = 4104;
+const NAME_ROOM: usize = 4104;
 
 const BEHIND: usize = 7;
 
-// A file that is being written, or standard output; and how many bytes of the room its own name takes.
+type Name = InlineText<NAME_ROOM>;
+
+// A file that is being written, with its own name; or standard output, which has none.
 #[derive(Drop)]
 pub struct Begun {
     pub out: Outlet,
-    pub named: usize,
+    name: Option<Name>,
 }
 
-// As many bytes as are there.
-fn within(n: usize, s: &[u8]) -> usize
-    ensures { IsPrefixLen result s.now }
-{
-    if n < s.len() { n } else { s.len() }
+// Standard output.
+pub fn begin_output(rt: &HostRuntime) -> Begun {
+    Begun {
+        out: Outlet::Output(rt.stdout()),
+        name: None,
+    }
 }
 
 fn letter(b: u8) -> u8 {
@@ -38,41 +40,30 @@ fn letter(b: u8) -> u8 {
 fn letters(rt: &HostRuntime) -> [u8; BEHIND] {
     let mut r = [0u8; 6];
     let _ = rt.fill_bytes(&mut r);
-    [
-        b'.',
-        letter(r[0]),
-        letter(r[1]),
-        letter(r[2]),
-        letter(r[3]),
-        letter(r[4]),
-        letter(r[5]),
-    ]
+    let [a, b, c, d, e, f] = r.map(letter);
+    [b'.', a, b, c, d, e, f]
 }
 
-// The name of a new file beside FILE; how long it is.
-fn put_name(rt: &HostRuntime, name: &mut [u8], file: &[u8]) -> usize
-    ensures { IsPrefixLen result name.new }
-{
-    copy(name, 0, file);
-    copy(name, file.len(), &letters(rt));
-    within(file.len() + BEHIND, name)
+// The name of a new file beside FILE.
+fn name_beside(file: &str, behind: &str) -> Name {
+    Name::new().and_str(file, NAME_ROOM - BEHIND - 1).and_str(behind, BEHIND)
 }
 
 // A new file: the name must not be taken.
-fn create(rt: &HostRuntime, name: &[u8]) -> io::Result<File> {
+fn create(rt: &HostRuntime, name: &str) -> io::Result<File> {
     OpenOptions::new()
         .write(true)
         .create_new(true)
-        .open(rt, path(name)?)
+        .open(rt, name)
 }
 
 // Makes a new file beside FILE, with the mode that the process gives its files. Where it can't be made, standard error says why.
-pub fn begin_file(rt: &HostRuntime, file: &[u8], name: &mut [u8]) -> Option<Begun> {
-    let n = put_name(rt, name, file);
-    match create(rt, &name[..n]) {
+pub fn begin_file(rt: &HostRuntime, file: &str) -> Option<Begun> {
+    let name = name_beside(file, from_utf8(&letters(rt)).unwrap_or(""));
+    match create(rt, name.as_str()) {
         Ok(made) => Some(Begun {
-            out: Outlet::file(made),
-            named: n,
+            out: Outlet::File(made),
+            name: Some(name),
         }),
         Err(e) => {
             fail(rt, file, e);
@@ -102,60 +93,37 @@ fn settle(file: File) -> io::Result<()> {
     }
 }
 
-// Behind its last '/', or 0.
-fn folder_length(file: &[u8]) -> usize
-    ensures { IsPrefixLen result file.now }
-{
-    let mut i = file.len();
-    while 0 < i {
-        if file[i - 1] == b'/' {
-            return i;
-        }
-        i -= 1;
+// The folder that FILE stands in.
+fn folder(file: &str) -> &str {
+    match file.rfind('/') {
+        Some(n) => &file[..n + 1],
+        None => ".",
     }
-    0
-}
-
-fn open_folder(rt: &HostRuntime, file: &[u8]) -> io::Result<File> {
-    let n = folder_length(file);
-    if n == 0 {
-        return File::open(rt, ".");
-    }
-    File::open(rt, path(&file[..n])?)
 }
 
 // Keeps the folder's entry for FILE, as far as the folder can be opened.
-fn enter(rt: &HostRuntime, file: &[u8]) -> io::Result<()> {
-    match open_folder(rt, file) {
-        Ok(folder) => settle(folder),
+fn enter(rt: &HostRuntime, file: &str) -> io::Result<()> {
+    match File::open(rt, folder(file)) {
+        Ok(opened) => settle(opened),
         Err(_) => Ok(()),
     }
 }
 
-// Standard output has no name to take.
-fn put_in_place(rt: &HostRuntime, out: Outlet, name: &[u8], file: &[u8]) -> io::Result<()> {
-    match out.into_file() {
-        Some(made) => settle(made)?,
-        None => {}
+fn put_in_place(rt: &HostRuntime, out: Outlet, name: &str, file: &str) -> io::Result<()> {
+    if let Outlet::File(made) = out {
+        settle(made)?;
     }
-    fs::rename(rt, path(name)?, path(file)?)
-}
-
-fn remove(rt: &HostRuntime, name: &[u8]) -> io::Result<()> {
-    fs::remove_file(rt, path(name)?)
+    fs::rename(rt, name, file)
 }
 
 // Puts the file in its place. Where that fails, standard error says why, and nothing is left beside it.
-pub fn finish_file(rt: &HostRuntime, begun: Begun, name: &[u8], file: &[u8]) -> bool {
-    let Begun { out, named } = begun;
-    let n = within(named, name);
-    match put_in_place(rt, out, &name[..n], file) {
-        Ok(()) => {}
-        Err(e) => {
-            fail(rt, file, e);
-            let _ = remove(rt, &name[..n]);
-            return false;
-        }
+pub fn finish_file(rt: &HostRuntime, begun: Begun, file: &str) -> bool {
+    let Begun { out, name } = begun;
+    let own = name.unwrap_or(Name::new());
+    if let Err(e) = put_in_place(rt, out, own.as_str(), file) {
+        fail(rt, file, e);
+        let _ = fs::remove_file(rt, own.as_str());
+        return false;
     }
     match enter(rt, file) {
         Ok(()) => true,
@@ -167,24 +135,25 @@ pub fn finish_file(rt: &HostRuntime, begun: Begun, name: &[u8], file: &[u8]) -> 
 }
 
 // Removes a file that will not be finished.
-pub fn drop_file(rt: &HostRuntime, begun: Begun, name: &[u8]) {
-    let Begun { out, named } = begun;
-    let n = within(named, name);
+pub fn drop_file(rt: &HostRuntime, begun: Begun) {
+    let Begun { out, name } = begun;
     drop(out);
-    let _ = remove(rt, &name[..n]);
+    if let Some(own) = name {
+        let _ = fs::remove_file(rt, own.as_str());
+    }
 }
 
 // Whether FILE is the place of a file that was begun, by whatever name: a file with the same letters behind it stands beside both.
-pub fn is_place(rt: &HostRuntime, begun: &Begun, name: &[u8], file: &[u8]) -> bool {
-    let n = within(begun.named, name);
-    if n < BEHIND {
+pub fn is_place(rt: &HostRuntime, begun: &Begun, file: &str) -> bool {
+    let Some(own) = begun.name else {
         return false;
-    }
-    let mut space = [0u8; NAME_ROOM];
-    copy(&mut space, 0, file);
-    copy(&mut space, file.len(), &name[n - BEHIND..n]);
-    let k = within(file.len() + BEHIND, &space);
-    is_same(of_name(rt, &space[..k]), of_name(rt, &name[..n]))
+    };
+    let name = own.as_str();
+    let Some((_, behind)) = name.rsplit_once('.') else {
+        return false;
+    };
+    let beside = name_beside(file, ".").and_str(behind, BEHIND);
+    is_same(of_name(rt, beside.as_str()), of_name(rt, name))
 }
 
 // Where standard output goes, as a file.
@@ -215,7 +184,7 @@ pub fn close_output(rt: &HostRuntime) -> bool {
     match settle_output(rt) {
         Ok(()) => true,
         Err(e) => {
-            fail(rt, b"standard output", e);
+            fail(rt, "standard output", e);
             false
         }
     }

@@ -5,7 +5,7 @@ ghost use Rattle.std.specs.Prelude.{◌≡◌, length};
 ghost use Rattle.std.specs.Io.{ReadsAtMost};
 ghost use Rattle.sheets.specs.Sheet.{Within, ending};
 
-use outlets::{fail, path};
+use outlets::fail;
 use std::fs::File;
 use std::io;
 use std::io::{Read, Stdin};
@@ -40,29 +40,21 @@ fn ended(got: isize, n: usize) -> Sheet
 }
 
 // Says why something just failed with a sheet. One without a name is standard input.
-pub fn fail_sheet(rt: &HostRuntime, name: &[u8], why: io::Error) {
-    if name.len() == 0 {
-        fail(rt, b"standard input", why);
-    } else {
-        fail(rt, name, why);
-    }
-}
-
-fn open(rt: &HostRuntime, name: &[u8]) -> io::Result<File> {
-    File::open(rt, path(name)?)
+pub fn fail_sheet(rt: &HostRuntime, name: Option<&str>, why: io::Error) {
+    fail(rt, name.unwrap_or("standard input"), why);
 }
 
 // What a sheet is read from: a file, or standard input where there is no name. Where there is none, standard error says why.
-pub fn open_sheet(rt: &HostRuntime, name: &[u8]) -> Option<Source> {
-    if name.len() == 0 {
-        return Some(Source::Input(rt.stdin()));
+pub fn open_sheet(rt: &HostRuntime, name: Option<&str>) -> Option<Source> {
+    match name {
+        Some(file) => open_file(rt, file),
+        None => Some(Source::Input(rt.stdin())),
     }
-    open_file(rt, name)
 }
 
 // The file of a name. Where there is none, standard error says why.
-pub fn open_file(rt: &HostRuntime, name: &[u8]) -> Option<Source> {
-    match open(rt, name) {
+pub fn open_file(rt: &HostRuntime, name: &str) -> Option<Source> {
+    match File::open(rt, name) {
         Ok(file) => Some(Source::File(file)),
         Err(e) => {
             fail(rt, name, e);
@@ -81,7 +73,13 @@ fn read_some(from: &mut Source, room: &mut [u8]) -> io::Result<usize>
 }
 
 // Reads until the room is full, the input ends or a read fails, and then standard error says why.
-pub fn read_sheet(rt: &HostRuntime, name: &[u8], from: &mut Source, room: &mut [u8]) -> Sheet
+// By hand: the next read goes behind what the one before has read, and how much that is each read says.
+pub fn read_sheet(
+    rt: &HostRuntime,
+    name: Option<&str>,
+    from: &mut Source,
+    room: &mut [u8],
+) -> Sheet
     ensures { Within (length room.new) result }
 {
     let mut n = 0;

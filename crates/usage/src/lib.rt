@@ -4,75 +4,64 @@
 mod help;
 pub mod status;
 
-use crate::help::{say_help, write_usage};
+use crate::help::{USAGE, say_help};
 use crate::status::{DONE, UNREAD, UNWRITTEN};
 use arguments::word::MOST_WORD;
-use arguments::{Fault, copy_word, count};
-use outlets::Outlet;
+use arguments::{Fault, Wrong, copy_word, count};
+use outlets::{Outlet, fail, say};
 use saving::close_output;
 
 // Help, and the status that it comes to.
 pub fn give_help(rt: &HostRuntime) -> u8 {
-    let mut out = Outlet::output(rt);
-    if !say_help(&mut out) {
-        out.fail(rt, b"standard output");
+    if let Err(e) = say_help(&mut Outlet::Output(rt.stdout())) {
+        fail(rt, "standard output", e);
         return UNWRITTEN;
     }
-    if close_output(rt) {
-        return DONE;
-    }
-    UNWRITTEN
+    if close_output(rt) { DONE } else { UNWRITTEN }
 }
 
-// A word of the command line, as far as 4,096 bytes of it go.
-fn say_word(rt: &HostRuntime, to: &mut Outlet, at: usize) {
+fn say_usage(rt: &HostRuntime) {
+    say(rt, b"\nUsage:\n");
+    say(rt, USAGE.as_bytes());
+}
+
+// What is wrong about a word, as far as 4,096 bytes of it go.
+fn say_about(rt: &HostRuntime, what: &str, at: usize) {
     let mut space = [0u8; MOST_WORD];
-    let n = copy_word(rt, at, &mut space);
-    to.put(b" '");
-    to.put(&space[..n]);
-    to.put(b"'");
-}
-
-fn say_usage(to: &mut Outlet) {
-    to.put(b"\nUsage:\n");
-    write_usage(to);
-}
-
-// What is wrong about a word.
-fn say_about(rt: &HostRuntime, what: &[u8], at: usize) {
-    let mut to = Outlet::error(rt);
-    to.put(b"tokenglade: ");
-    to.put(what);
-    say_word(rt, &mut to, at);
-    say_usage(&mut to);
+    let word = copy_word(rt, at, &mut space).unwrap_or(b"");
+    say(rt, b"tokenglade: ");
+    say(rt, what.as_bytes());
+    say(rt, b" '");
+    say(rt, word);
+    say(rt, b"'");
+    say_usage(rt);
 }
 
 // What is wrong.
-pub fn say_wrong(rt: &HostRuntime, what: &[u8]) {
-    let mut to = Outlet::error(rt);
-    to.put(b"tokenglade: ");
-    to.put(what);
-    say_usage(&mut to);
+pub fn say_wrong(rt: &HostRuntime, what: &str) {
+    say(rt, b"tokenglade: ");
+    say(rt, what.as_bytes());
+    say_usage(rt);
 }
 
 pub fn say_no_command(rt: &HostRuntime) {
     if count(rt) < 2 {
-        say_wrong(rt, b"what is to be done?");
+        say_wrong(rt, "what is to be done?");
         return;
     }
-    say_about(rt, b"no such command:", 1);
+    say_about(rt, "no such command:", 1);
 }
 
-// What is wrong with the word of this number, and the status; `--help` is no fault.
-pub fn say_fault(rt: &HostRuntime, fault: Fault, at: usize) -> u8 {
-    match fault {
-        Fault::Unknown => say_about(rt, b"no such option:", at),
-        Fault::NoFile => say_about(rt, b"a FILE is missing behind", at),
-        Fault::Again => say_about(rt, b"given twice:", at),
-        Fault::Second => say_about(rt, b"one SHEET at a time; this is a second one:", at),
-        Fault::Empty => say_wrong(rt, b"an empty name"),
-        Fault::Long => say_wrong(rt, b"a name of more than 4,096 bytes"),
-        Fault::NoText => say_wrong(rt, b"a name that is not UTF-8"),
+// What is wrong with a word, and the status; `--help` is no fault.
+pub fn say_fault(rt: &HostRuntime, w: Wrong) -> u8 {
+    match w.fault {
+        Fault::Unknown => say_about(rt, "no such option:", w.at),
+        Fault::NoFile => say_about(rt, "a FILE is missing behind", w.at),
+        Fault::Again => say_about(rt, "given twice:", w.at),
+        Fault::Second => say_about(rt, "one SHEET at a time; this is a second one:", w.at),
+        Fault::Empty => say_wrong(rt, "an empty name"),
+        Fault::Long => say_wrong(rt, "a name of more than 4,096 bytes"),
+        Fault::NoText => say_wrong(rt, "a name that is not UTF-8"),
         Fault::Help => return give_help(rt),
     }
     UNREAD
