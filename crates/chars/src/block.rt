@@ -1,4 +1,6 @@
 // Blocks of bytes of a class. They are counted by a loop that has no exit and adds 0 or 1 to a byte, so that it is vectorised.
+#![tactic(auto, unfolding(crate::specs::Each::one_of, crate::specs::Blocks::is_space, crate::specs::Blocks::ordinary))]
+
 ghost use Rattle.std.specs.Prelude.{◌≤◌, ◌≡◌, ℕ, Bool, length};
 ghost use Rattle.chars.specs.Ascii.{low};
 ghost use Rattle.chars.specs.Blocks.{is_space, ordinary};
@@ -50,7 +52,6 @@ pub fn is_ordinary(b: u8) -> bool
 }
 
 // 1 for a byte of the class, else 0.
-#[tactic(auto, unfolding(crate::specs::Each::one_of, crate::specs::Blocks::is_space))]
 fn one_of<C: ByteClass>(b: u8) -> u8
     ensures { result ≡ one_of C.test b }
 {

@@ -1,4 +1,6 @@
 // The tests of char_traits. 0 stands for the end of the text. `|` and `&` take no branch: a loop that stops at a class gets one bit test.
+#![tactic(auto, unfolding(yaml_text::specs::Class::among, yaml_text::specs::Class::is_alpha, yaml_text::specs::Class::is_anchor, yaml_text::specs::Class::is_blank, yaml_text::specs::Class::is_blank_or_breakz, yaml_text::specs::Class::is_bom, yaml_text::specs::Class::is_break, yaml_text::specs::Class::is_breakz, yaml_text::specs::Class::is_digit, yaml_text::specs::Class::is_flow, yaml_text::specs::Class::is_hex, yaml_text::specs::Class::is_non_space, yaml_text::specs::Class::is_tag, yaml_text::specs::Class::is_z))]
+
 ghost use Rattle.std.specs.Prelude.{true, ◌≡◌, ℕ, Bool};
 ghost use Rattle.yaml_text.specs.Class.{as_hex, is_alpha, is_anchor, is_blank, is_blank_or_breakz, is_bom, is_break, is_breakz, is_digit, is_flow, is_hex, is_non_space, is_tag, is_uri, is_z};
 
