@@ -1,6 +1,6 @@
 -- Stores into a room. `sets l n t` stores t from n on, as far as there is room, and changes nothing else.
-use Rattle.std.specs.Prelude.{◌+◌, ◌-◌, ◌<◌, ◌≤◌, suc, ℕ, List, [], ◌++◌, ◌∷◌, ◌≡◌, refl, ltb, drop, get_or, length, replicate, set, take}
-use Rattle.std.proofs.Common.{append_assoc, append-nil, ◌∙◌, sym, add-one, arith, drop_of_length-le, length-drop, length-set, take-append-drop, drop-cons, length-take-le, take_all, take-suc-set, ltb-false, ltb-true}
+use Rattle.std.specs.Prelude.{◌+◌, ◌-◌, ◌<◌, ◌≤◌, suc, ℕ, List, [], ◌++◌, ◌∷◌, ◌⊎◌, ◌≡◌, refl, ltb, drop, get_or, length, replicate, set, take}
+use Rattle.std.proofs.Common.{inl, inr, append_assoc, append-nil, ◌∙◌, sym, add-one, arith, drop_of_length-le, length-drop, length-set, take-append-drop, drop-cons, length-take-le, take_all, take-suc-set, ltb-false, ltb-true}
 use Rattle.std.proofs.Math.Seq.{length-sets, set_out}
 use Rattle.std.proofs.lemmas.List.Edits.{sets}
 use Rattle.std.proofs.lemmas.List.{take-set-le}
@@ -11,7 +11,7 @@ pub rest_whole : (n : ℕ) (l : List ℕ) → take (length l - n) (drop n l) ≡
 rest_whole n l = let e = length-drop n l in take_all (length l - n) (drop n l) (omega arith)
 
 -- past the end nothing is stored
-pub sets_out : (t l : List ℕ) (n : ℕ) → length l ≤ n → sets l n t ≡ l
+pub sets_out : {A : Type 0} (t l : List A) (n : ℕ) → length l ≤ n → sets l n t ≡ l
 sets_out [] l n h = refl
 sets_out (a ∷ t) l n h = let k : length l ≤ suc n = omega arith in rw (set_out l n a h) (sets_out t l (suc n) k)
 
@@ -19,9 +19,19 @@ pub sets_past : (t l : List ℕ) (n k : ℕ) → length l ≤ n → length l ≤
 sets_past t l n k h g = sets_out t l n h ∙ sym (sets_out t l k g)
 
 -- one text behind another is one text
-pub sets_join : (s t l : List ℕ) (n : ℕ) → sets (sets l n s) (n + length s) t ≡ sets l n (s ++ t)
+pub sets_join : {A : Type 0} (s t l : List A) (n : ℕ) → sets (sets l n s) (n + length s) t ≡ sets l n (s ++ t)
 sets_join [] t l n = let e : n + 0 ≡ n = omega arith in rw e
 sets_join (a ∷ s) t l n = let e : n + suc (length s) ≡ suc n + length s = omega arith in rw e (sets_join s t (set l n a) (suc n))
+
+-- only so much of a text is stored as there is room
+pub sets_fit : {A : Type 0} (s l : List A) (n k : ℕ) → (length s ≤ k) ⊎ (length l ≤ n + k) → sets l n s ≡ sets l n (take k s)
+sets_fit s l n k (inl h) = rw (take_all k s h) refl
+sets_fit s l n k (inr h) =
+    by_test (ltb k (length s))
+    (λ e. let m = length-take-le k s (omega (arith, ltb-true k (length s) e)) in
+    sym (rw take-append-drop at (sets_join (take k s) (drop k s) l n))
+    ∙ sets_out (drop k s) (sets l n (take k s)) (n + length (take k s)) (rw (length-sets, m) h))
+    (λ e. rw (take_all k s (ltb-false k (length s) e)) refl)
 
 -- what stands before the text stays
 pub take_sets : (t l : List ℕ) (k n : ℕ) → k ≤ n → take k (sets l n t) ≡ take k l
