@@ -66,12 +66,11 @@ pub fn put_char(out: &mut [u8], n: usize, c: u32) -> usize
     n + 4
 }
 
-// What a room may hold: a number.
+// What a room holds: a number.
 pub trait Number: Copy {
-    ghost zero: { Self };
+    ghost ZERO: { Self };
 
-    fn zero() -> Self
-        ensures { result ≡ zero };
+    const ZERO: Self;
 
     ghost whole: { (x y : Self) → Self.is_clone x y → y ≡ x };
 
@@ -79,34 +78,30 @@ pub trait Number: Copy {
 }
 
 impl Number for u8 {
-    ghost zero = { 0 };
+    ghost ZERO = { 0 };
+
+    const ZERO: u8 = 0;
 
     ghost whole = { λ x y e. e };
 
     ghost free = { λ x. tt };
-
-    fn zero() -> u8 {
-        0
-    }
 }
 
 impl Number for u32 {
-    ghost zero = { 0 };
+    ghost ZERO = { 0 };
+
+    const ZERO: u32 = 0;
 
     ghost whole = { λ x y e. e };
 
     ghost free = { λ x. tt };
-
-    fn zero() -> u32 {
-        0
-    }
 }
 
 // Zeros from n on.
 pub fn clear_from<T: Number>(out: &mut [T], n: usize)
-    ensures { out.new ≡ filled T.zero out.old n }
+    ensures { out.new ≡ filled T.ZERO out.old n }
 {
     if n < out.len() {
-        out[n..].fill(T::zero());
+        out[n..].fill(T::ZERO);
     }
 }
