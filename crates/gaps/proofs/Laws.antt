@@ -230,17 +230,27 @@ open_blank flow m c InComment h = h
 pub other_at : (s : List ℕ) (at b : ℕ) → b ≡ get_or s at 0 → is_blank b ≡ false → is_break b ≡ false → (b ≡ '#' → ⊥) → Other (chars (drop at s))
 other_at s at b e f g h = record { no_break = ascii_at s at b e break_ascii ∙ g; no_blank = ascii_at s at b e blank_ascii ∙ f; no_hash = ne_char s at b e '#' tt h }
 
-pub gap_ends : (flow a : Bool) {b : Before} (x : Before) (l : Bool) (m : Mark) (cs : List ℕ) → b ≡ x → on_other x ≡ stop → is_leading x ≡ l → Other cs
+-- a token begins here, where no tab leads its line and no comment is open
+stops : (b : Before) → Open b → ((t : Mark) → b ≡ Tabbed t → ⊥) → on_other b ≡ stop
+unfolding on_other
+stops Leading o t = refl
+stops (Tabbed m) o t = absurd (t m refl)
+stops Spaced o t = refl
+stops AfterText o t = refl
+stops InComment o t = absurd o
+
+pub gap_ends : (flow a : Bool) {b : Before} {l : Bool} (m : Mark) (cs : List ℕ) → l ≡ is_leading b → Open b → ((t : Mark) → b ≡ Tabbed t → ⊥) → Other cs
     → skip_gap flow a b m cs ≡ got (record { place = here m cs; simple_key_allowed = a; leading_whitespace = l })
 unfolding skip_gap gap_turn
-gap_ends flow a x l m [] e f g o = rw (e, g)
-gap_ends flow a x l m (c ∷ cs) e f g o = rw e (gap_turned flow a x m c cs ∙ rw (o.no_break, o.no_blank, o.no_hash, f, g))
+gap_ends flow a m [] e h t o = rw e
+gap_ends flow a {b} m (c ∷ cs) e h t o = gap_turned flow a b m c cs ∙ rw (o.no_break, o.no_blank, o.no_hash, stops b h t, e)
 
-pub gap_nothing : (flow a : Bool) (t m : Mark) (cs : List ℕ) → cs ≡ [] → skip_gap flow a (Tabbed t) m cs ≡ got (record { place = here m cs; simple_key_allowed = a; leading_whitespace = true })
-unfolding skip_gap is_leading
-gap_nothing flow a t m cs e = rw e
+pub gap_nothing : (flow a : Bool) (b : Before) {l : Bool} (m : Mark) (cs : List ℕ) → l ≡ is_leading b → cs ≡ []
+    → skip_gap flow a b m cs ≡ got (record { place = here m cs; simple_key_allowed = a; leading_whitespace = l })
+unfolding skip_gap
+gap_nothing flow a b m cs e f = rw (f, e)
 
-pub gap_tabbed : (flow a : Bool) (t m : Mark) (c : ℕ) (cs ds : List ℕ) → cs ≡ c ∷ ds → Other cs → skip_gap flow a (Tabbed t) m cs ≡ refused 45 t
+pub gap_tabbed : (flow a : Bool) {b : Before} (t m : Mark) (c : ℕ) (cs ds : List ℕ) → b ≡ Tabbed t → cs ≡ c ∷ ds → Other cs → skip_gap flow a b m cs ≡ refused 45 t
 unfolding gap_turn on_other
-gap_tabbed flow a t m c cs ds e o =
-    rw e (gap_turned flow a (Tabbed t) m c ds ∙ (let n = rw e at o.no_break in let k = rw e at o.no_blank in let h = rw e at o.no_hash in rw (n, k, h)))
+gap_tabbed flow a t m c cs ds f e o =
+    rw (f, e) (gap_turned flow a (Tabbed t) m c ds ∙ (let n = rw e at o.no_break in let k = rw e at o.no_blank in let h = rw e at o.no_hash in rw (n, k, h)))

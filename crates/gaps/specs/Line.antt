@@ -1,5 +1,6 @@
 -- A line's characters of one byte in a row: to the definition each is a turn, and code takes them at once.
 use Rattle.std.specs.Prelude.{◌+◌, suc, ℕ, Bool, ◌&&◌, false, not, true, List, [], ◌∷◌, ◌≡◌, refl, ltb, drop, take}
+use Rattle.std.specs.List.{prefix_len}
 use Rattle.std.proofs.Common.{◌∙◌, ap, arith, ltb-true}
 use Rattle.std.proofs.lemmas.Bool.{not-true}
 use Rattle.yaml_text.specs.declared.Mark.{Mark}
@@ -10,7 +11,7 @@ use Rattle.yaml_text.specs.Test.{both_true, by_test}
 use Rattle.yaml_text.specs.Utf8.{chars}
 use Rattle.yaml_lexeme.specs.Gap.{to_break}
 use Rattle.yaml_lexeme.specs.Turns.{to_break_more, to_break_stop}
-use Rattle.gaps.specs.Row.{Row, done, next, row, row_length}
+use Rattle.gaps.specs.Row.{Row, done, next, row}
 
 -- a line: the characters up to the break
 unfoldable pub in_line : ℕ → Bool
@@ -42,7 +43,7 @@ is_low b = ltb b 128 && not (is_break b)
 
 -- how many such bytes a text begins with
 abbrev pub low_run : List ℕ → ℕ
-low_run l = row_length is_low l
+low_run l = prefix_len is_low l
 
 low_parts : (b : ℕ) → is_low b ≡ true → (ltb b 128 ≡ true) × (not (is_break b) ≡ true)
 unfolding is_low

@@ -109,7 +109,7 @@ fn on_blank(flow: bool, m: Mark, c: u8, b: Before) -> Before
     ensures { result ≡ on_blank flow m c b }
 {
     match b {
-        Before::Leading if !flow & (c == b'\t') => Before::Tabbed(m),
+        Before::Leading => pick(!flow & (c == b'\t'), Before::Tabbed(m), b),
         Before::AfterText => Before::Spaced,
         _ => b,
     }

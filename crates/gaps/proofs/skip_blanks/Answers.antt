@@ -20,18 +20,18 @@ skip_blank-p-requires c = small c.loop-p.invariant.stands (search rules)
 
 pub loop-p-smaller : goal.loop-p-smaller
 loop-p-smaller c =
-    let blank : is_blank c.byte.result ≡ true = sym c.is_blank.ensures ∙ c.if-is_blank.true in
+    let blank : is_blank c.byte.result ≡ true = sym c.is_blank.ensures ∙ c.loop-p-test.true in
     let char : CharAt c.args.text.now c.loop-p.p.at c.byte.result 1 = ascii_char _ _ _ c.byte.ensures blank_ascii (blank) in
     rw c.skip_blank-p.ensures (omega (arith, (char).within))
 
 pub loop-p-preserved : goal.loop-p-preserved
 loop-p-preserved c =
-    let blank : is_blank c.byte.result ≡ true = sym c.is_blank.ensures ∙ c.if-is_blank.true in
+    let blank : is_blank c.byte.result ≡ true = sym c.is_blank.ensures ∙ c.loop-p-test.true in
     let char : CharAt c.args.text.now c.loop-p.p.at c.byte.result 1 = ascii_char _ _ _ c.byte.ensures blank_ascii (blank) in
     rw c.skip_blank-p.ensures
     (walks_along c.loop-p.invariant 1 1 (reach_one (char)) (blank_turn _ (char) (blank)))
 
-pub returns-else-is_blank : goal.returns-else-is_blank
-returns-else-is_blank c =
+pub returns : goal.returns
+returns c =
     walks_done c.loop-p.invariant
-    (blank_done _ _ (ascii_at c.args.text.now c.loop-p.p.at _ c.byte.ensures blank_ascii ∙ sym c.is_blank.ensures ∙ c.if-is_blank.false))
+    (blank_done _ _ (ascii_at c.args.text.now c.loop-p.p.at _ c.byte.ensures blank_ascii ∙ sym c.is_blank.ensures ∙ c.loop-p-test.false))
