@@ -36,6 +36,6 @@ returns c =
     let blank : is_blank (peek (chars (drop c.args.start.at c.args.text.now)) 0) ≡ c.is_blank-blank.result = ascii_at c.args.text.now c.args.start.at _ c.byte.ensures blank_ascii
     ∙ sym c.is_blank-blank.ensures in
     let w = c.skip_blanks-p.ensures in
-    reaches_refused c.stuck.ensures
+    reaches_refused c.refuse.ensures
     (comment_wrong _ _ (blank ∙ c.if-blank.false) (look_at '#' w c.byte-2.ensures tt ∙ eq-eqb _ '#' c.if-byte-ne35.false)
     ∙ ap (λ (q : definition.Place). refused 44 q.mark) (sym w.same))

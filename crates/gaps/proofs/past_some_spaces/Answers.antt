@@ -7,4 +7,4 @@ pub returns-then-at-ne0 : goal.returns-then-at-ne0
 returns-then-at-ne0 c = untried c.if-at-ne0.true refl
 
 pub returns : goal.returns
-returns c = tried c.if-at-ne0.false c.past_space_blocks.ensures
+returns c = tried c.if-at-ne0.false c.past_blocks.ensures

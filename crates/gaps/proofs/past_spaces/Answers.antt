@@ -10,8 +10,8 @@ use Rattle.gaps.proofs.past_spaces.Goals as goal
 pub loop-at-init : goal.loop-at-init
 loop-at-init c = each_none c.requires
 
-pub returns-then-text-at-ne32 : goal.returns-then-text-at-ne32
-returns-then-text-at-ne32 c = spaces_over c.loop-at.invariant c.loop-at-test.true c.if-text-at-ne32.true
+pub returns-else-text-at-eq32 : goal.returns-else-text-at-eq32
+returns-else-text-at-eq32 c = spaces_over c.loop-at.invariant c.loop-at-test.true c.if-text-at-eq32.false
 
 pub loop-at-smaller : goal.loop-at-smaller
 loop-at-smaller c =
@@ -22,8 +22,8 @@ pub loop-at-preserved : goal.loop-at-preserved
 unfolding is_space
 loop-at-preserved c =
     let h = c.loop-at-test.true in
-    let one = each_one h (eq-eqb _ space c.if-text-at-ne32.false) in
+    let one = each_one h (eq-eqb _ space c.if-text-at-eq32.true) in
     each_then c.loop-at.invariant (each_then one (tries_each (omega (arith, h)) c.past_some_spaces-at.ensures))
 
-pub returns : goal.returns
-returns c = spaces_past c.loop-at.invariant c.loop-at-test.false
+pub returns-after-loop-at : goal.returns-after-loop-at
+returns-after-loop-at c = spaces_past c.loop-at.invariant c.loop-at-test.false

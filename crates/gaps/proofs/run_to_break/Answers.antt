@@ -15,43 +15,53 @@ use Rattle.gaps.specs.Span.{Spanning, spans_along, spans_done, spans_start}
 use Rattle.gaps.proofs.Laws.{end_done, line_done, line_turn, low_few, low_spans}
 use borrow.Author.Rules.{rules}
 use Rattle.gaps.proofs.run_to_break.Goals as goal
+use Rattle.gaps.proofs.run_to_break.Goals.{After-skip_n_non_blank-q, In-Char}
 
 -- the line from a place on
 abbrev line-from : List ℕ → Place → Run
 line-from text p = line p.mark (chars (drop p.at text))
 
+-- behind the characters of one byte
+spanned : (c : After-skip_n_non_blank-q) → let q = c.skip_n_non_blank-q.result in
+    Spanning c.args.text.now c.args.start q (line-from c.args.text.now c.args.start) (line-from c.args.text.now q)
+spanned c = low_spans c.low_run.ensures c.loop-code.invariant c.skip_n_non_blank-q.ensures
+
+-- the character there
+char : (c : In-Char) → CharAt c.args.text.now c.skip_n_non_blank-q.result.at c.in-Char.code c.in-Char.len
+char c = char_at _ _ _ _ (sym c.char_at-d.ensures ∙ c.in-Char.is)
+
 pub loop-code-init : goal.loop-code-init
 loop-code-init c = spans_start c.requires
+
+pub low_run-requires : goal.low_run-requires
+low_run-requires c = let h = c.loop-code.invariant.walks.stands in (h.within, omega (arith, h.index, h.within))
 
 pub skip_n_non_blank-q-requires : goal.skip_n_non_blank-q-requires
 skip_n_non_blank-q-requires c = (small c.loop-code.invariant.walks.stands (search rules), low_few c.low_run.ensures c.loop-code.invariant.walks.stands)
 
 pub returns-in_default : goal.returns-in_default
 returns-in_default c =
-    let spanned : Spanning (c.args.text.now) c.args.start (c.skip_n_non_blank-q.result) (line-from (c.args.text.now) c.args.start) (line-from (c.args.text.now) (c.skip_n_non_blank-q.result)) = low_spans c.low_run.ensures c.loop-code.invariant c.skip_n_non_blank-q.ensures in
-    spans_done (spanned) (end_done _ _ (none_told (c.args.text.now) (c.skip_n_non_blank-q.result).at c.char_at-d.ensures (not_char c.char_at-d.result c.in_default.not-Char)))
+    spans_done (spanned (goal.at.returns-in_default c).After-skip_n_non_blank-q)
+    (end_done _ _ (none_told c.args.text.now c.skip_n_non_blank-q.result.at c.char_at-d.ensures (not_char c.char_at-d.result c.in_default.not-Char)))
 
 pub returns-then-is_break : goal.returns-then-is_break
 returns-then-is_break c =
-    let spanned : Spanning (c.args.text.now) c.args.start (c.skip_n_non_blank-q.result) (line-from (c.args.text.now) c.args.start) (line-from (c.args.text.now) (c.skip_n_non_blank-q.result)) = low_spans c.low_run.ensures c.loop-code.invariant c.skip_n_non_blank-q.ensures in
-    let char : CharAt (c.args.text.now) (c.skip_n_non_blank-q.result).at c.in-Char.code c.in-Char.len = char_at (c.args.text.now) (c.skip_n_non_blank-q.result).at _ _ (sym c.char_at-d.ensures ∙ c.in-Char.is) in
-    spans_done (spanned) (line_done _ (char) (sym c.is_break.ensures ∙ c.if-is_break.true))
+    let at = goal.at.returns-then-is_break c in
+    spans_done (spanned at.After-skip_n_non_blank-q) (line_done _ (char at.In-Char) (sym c.is_break.ensures ∙ c.if-is_break.true))
 
 pub skip_non_blank-p-requires : goal.skip_non_blank-p-requires
 skip_non_blank-p-requires c =
-    let spanned : Spanning (c.args.text.now) c.args.start (c.skip_n_non_blank-q.result) (line-from (c.args.text.now) c.args.start) (line-from (c.args.text.now) (c.skip_n_non_blank-q.result)) = low_spans c.low_run.ensures c.loop-code.invariant c.skip_n_non_blank-q.ensures in
-    let char : CharAt (c.args.text.now) (c.skip_n_non_blank-q.result).at c.in-Char.code c.in-Char.len = char_at (c.args.text.now) (c.skip_n_non_blank-q.result).at _ _ (sym c.char_at-d.ensures ∙ c.in-Char.is) in
-    (small (spanned).walks.stands (search rules), (char).few)
+    let at = goal.at.skip_non_blank-p-requires c in
+    (small (spanned at.After-skip_n_non_blank-q).walks.stands (search rules), (char at.In-Char).few)
 
 pub loop-code-smaller : goal.loop-code-smaller
 loop-code-smaller c =
-    let onward : c.loop-code.p.at ≤ (c.skip_n_non_blank-q.result).at = rw c.skip_n_non_blank-q.ensures (omega arith) in
-    let char : CharAt (c.args.text.now) (c.skip_n_non_blank-q.result).at c.in-Char.code c.in-Char.len = char_at (c.args.text.now) (c.skip_n_non_blank-q.result).at _ _ (sym c.char_at-d.ensures ∙ c.in-Char.is) in
-    rw c.skip_non_blank-p.ensures (omega (arith, char, onward))
+    let onward : c.loop-code.p.at ≤ c.skip_n_non_blank-q.result.at = rw c.skip_n_non_blank-q.ensures (omega arith) in
+    rw c.skip_non_blank-p.ensures (omega (arith, char (goal.at.loop-code-smaller c).In-Char, onward))
 
 pub loop-code-preserved : goal.loop-code-preserved
 loop-code-preserved c =
-    let spanned : Spanning (c.args.text.now) c.args.start (c.skip_n_non_blank-q.result) (line-from (c.args.text.now) c.args.start) (line-from (c.args.text.now) (c.skip_n_non_blank-q.result)) = low_spans c.low_run.ensures c.loop-code.invariant c.skip_n_non_blank-q.ensures in
-    let char : CharAt (c.args.text.now) (c.skip_n_non_blank-q.result).at c.in-Char.code c.in-Char.len = char_at (c.args.text.now) (c.skip_n_non_blank-q.result).at _ _ (sym c.char_at-d.ensures ∙ c.in-Char.is) in
+    let at = goal.at.loop-code-preserved c in
+    let k = char at.In-Char in
     rw c.skip_non_blank-p.ensures
-    (spans_along (spanned) _ 1 (reach_one (char)) (line_turn _ (char) (sym c.is_break.ensures ∙ c.if-is_break.false)))
+    (spans_along (spanned at.After-skip_n_non_blank-q) _ 1 (reach_one k) (line_turn _ k (sym c.is_break.ensures ∙ c.if-is_break.false)))
