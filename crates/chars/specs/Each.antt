@@ -1,10 +1,12 @@
 -- Bytes of a class between two places of a text, and what is carried over each of them; and how many of a block are, as a loop without an exit counts
 -- them: where all are, each is.
-use Prim.Native.Nat.{◌%◌, ◌+◌, ◌-◌, ◌<◌, ◌≤◌, suc, zero, ℕ}
+use Prim.Native.Nat.{◌%◌, ◌*◌, ◌+◌, ◌-◌, ◌<◌, ◌≤◌, suc, zero, ℕ}
 use Rattle.std.specs.Prelude.{Bool, ◌&&◌, false, true, ◌≡◌, eqb, leb, ltb, drop, get_or, length, take}
 use Rattle.std.proofs.Math.Bool.{and-false}
 use mathlib.Core.List.{List, [], ◌∷◌}
-use Rattle.std.proofs.Common.{◌∙◌, subst, sym, length-drop, drop-cons, get_or-drop, get_or-take, length-take-le, eqb-true, leb-true, ltb-false, ltb-true}
+use Rattle.std.specs.List.{prefix_len}
+use Rattle.std.specs.Simd.{first_chunks}
+use Rattle.std.proofs.Common.{◌∙◌, refl, subst, sym, length-drop, drop-cons, drop-drop, get_or-drop, get_or-take, length-take-le, eqb-true, leb-true, ltb-false, ltb-true}
 use Rattle.std.proofs.Math.Numerals.{add-one}
 use native.Mathlib.Omega.{arith}
 use Rattle.std.proofs.Math.ListN.{drop_of_length-le}
@@ -107,21 +109,29 @@ pub record Blocks (p : ℕ → Bool) (s : List ℕ) (at r : ℕ) : Type 0 where
   pub whole : (r - at) % 16 ≡ 0
   pub last : (leb (r + 16) (length s) && all_of p (take 16 (drop r s))) ≡ false
 
--- the same on the way, where more may follow
-abbrev pub SomeBlocks : (ℕ → Bool) → List ℕ → ℕ → ℕ → Type 0
-SomeBlocks p s at r = Each p s at r × ((r - at) % 16 ≡ 0)
+-- none, where the text is shorter or the next block has a byte of another class
+blocks_stop : {p : ℕ → Bool} {s : List ℕ} {at : ℕ} → at ≤ length s → (leb (at + 16) (length s) && all_of p (take 16 (drop at s))) ≡ false → Blocks p s at at
+blocks_stop h e = record { each = each_none h; whole = omega arith; last = e }
 
-module _ {p : ℕ → Bool} {s : List ℕ} {start at : ℕ} where
-  pub blocks_more : SomeBlocks p s start at → at + 16 ≤ length s → all_of p (take (at + 16 - at) (drop at s)) ≡ true → SomeBlocks p s start (at + 16)
-  blocks_more w h e = (each_then w.0 (each_block (omega arith) h e), omega (arith, w.1, w.0.onward))
+-- one more in front
+blocks_then : {p : ℕ → Bool} {s : List ℕ} {at r : ℕ} → Each p s at (at + 16) → Blocks p s (at + 16) r → Blocks p s at r
+blocks_then w b = record { each = each_then w b.each; whole = omega (arith, b.whole, b.each.onward); last = b.last }
 
-  pub blocks_end : SomeBlocks p s start at → all_of p (take (at + 16 - at) (drop at s)) ≡ false → Blocks p s start at
-  blocks_end w e =
-      let k : at + 16 - at ≡ 16 = omega arith in
-      record { each = w.0; whole = w.1; last = rw (rw k at e) (and-false (leb (at + 16) (length s))) }
-
-  pub blocks_out : SomeBlocks p s start at → length s < at + 16 → Blocks p s start at
-  blocks_out w h = record { each = w.0; whole = w.1; last = rw (lt-leb (at + 16) (length s) h) }
+-- those of k blocks that are of the class, from the first on, where no block follows them
+pub blocks_counted : (p : ℕ → Bool) (s : List ℕ) (at k : ℕ) → at + 16 * k ≤ length s → length s < at + 16 * k + 16
+    → Blocks p s at (at + 16 * prefix_len (all_of p) (first_chunks 16 k (drop at s)))
+blocks_counted p s at zero h g =
+    let e : at + 16 * 0 ≡ at = omega arith in
+    rw e (blocks_stop (omega arith) (rw (lt-leb (at + 16) (length s) (omega arith)) refl))
+blocks_counted p s at (suc k) h g =
+    let chunk = take 16 (drop at s) in
+    let n = prefix_len (all_of p) (first_chunks 16 k (drop (at + 16) s)) in
+    let one : at + 16 * (1 + n) ≡ at + 16 + 16 * n = omega arith in
+    let none : at + 16 * 0 ≡ at = omega arith in
+    let next : at + 16 - at ≡ 16 = omega arith in
+    by_test (all_of p chunk)
+    (λ t. rw (t, drop-drop, one) (blocks_then (each_block (omega arith) (omega arith) (rw next t)) (blocks_counted p s (at + 16) k (omega arith) (omega arith))))
+    (λ f. rw (f, none) (blocks_stop (omega arith) (rw f (and-false (leb (at + 16) (length s))))))
 
 -- none, where the first byte is of another class
 pub blocks_none : {p : ℕ → Bool} {s : List ℕ} {at : ℕ} → at ≤ length s → p (get_or s at 0) ≡ false → Blocks p s at at

@@ -2,6 +2,7 @@
 #![tactic(auto, unfolding(crate::specs::Each::one_of, crate::specs::Blocks::is_space, crate::specs::Blocks::ordinary))]
 
 ghost use Rattle.std.specs.Prelude.{◌≤◌, ◌≡◌, ℕ, Bool, length};
+ghost use Rattle.std.specs.List.{prefix_len};
 ghost use Rattle.chars.specs.Ascii.{low};
 ghost use Rattle.chars.specs.Blocks.{is_space, ordinary};
 ghost use Rattle.chars.specs.Each.{Blocks, all_of, count_of, one_of};
@@ -78,17 +79,19 @@ pub fn all_of<C: ByteClass>(s: &[u8]) -> bool
     count::<C>(s) as usize == s.len()
 }
 
+// How many blocks in a row, from the first on, are of the class.
+fn leading<C: ByteClass>(blocks: &[[u8; 16]]) -> usize
+    ensures value { result ≡ prefix_len (all_of C.test) blocks.now }
+    ensures within { result ≤ length blocks.now }
+{
+    blocks.iter().take_while(|b| all_of::<C>(*b)).count()
+}
+
 // Over blocks of 16 bytes of the class.
 pub fn past_blocks<C: ByteClass>(text: &[u8], start: usize) -> usize
     requires { start ≤ length text.now }
     ensures { Blocks C.test text.now start result }
 {
-    let mut at = start;
-    while at + 16 <= text.len() {
-        if !all_of::<C>(&text[at..at + 16]) {
-            return at;
-        }
-        at += 16;
-    }
-    at
+    let (blocks, _) = text[start..].as_chunks::<16>();
+    start + 16 * leading::<C>(blocks)
 }
