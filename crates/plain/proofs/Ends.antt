@@ -3,6 +3,7 @@ use Prim.Native.Nat.{◌%◌, ◌*◌, ◌+◌, ◌<◌, ◌≤◌, suc, ℕ}
 use mathlib.Core.Bool.{Bool, ◌&&◌, ◌||◌, and-false, and-true, false, or-false, or-true, true}
 use mathlib.Core.List.{List}
 use mathlib.Core.Path.{◌∙◌, ◌≡◌, refl, sym}
+use Rattle.std.proofs.Common.{None, Option, Some}
 use native.Mathlib.Omega.{arith}
 use lib.Dec.{eqb, leb, ltb}
 use lib.ListN.{drop, get_or, length}
@@ -98,28 +99,28 @@ end_stops flow blank d = refl
 
 -- what `text_length` answers: by the byte b there
 module _ (flow blank : Bool) (s : List ℕ) (at b : ℕ) (e : b ≡ get_or s at 0) where
-  pub low_stops : b < 128 → plain_stops flow blank b (peek (chars (drop (at + 1) s)) 0) ≡ true → 0 ≡ text_length flow blank s at
+  pub low_stops : b < 128 → plain_stops flow blank b (peek (chars (drop (at + 1) s)) 0) ≡ true → None ≡ text_length flow blank s at
   unfolding taken
   low_stops h f =
       by_test (ltb at (length s))
       (λ t. rw ((byte_char s at b e (ltb-true at (length s) t) h).is, f))
       (λ t. rw (first_past s at (ltb-false at (length s) t)))
 
-  pub low_goes : b < 128 → plain_stops flow blank b (peek (chars (drop (at + 1) s)) 0) ≡ false → 1 ≡ text_length flow blank s at
+  pub low_goes : b < 128 → plain_stops flow blank b (peek (chars (drop (at + 1) s)) 0) ≡ false → Some 1 ≡ text_length flow blank s at
   unfolding taken
   low_goes h f =
       by_test (ltb 0 b)
       (λ t. rw ((byte_char s at b e (byte_within s at b e (ltb-true 0 b t)) h).is, f))
       (λ t. let z : b ≡ 0 = omega (arith, ltb-false 0 b t) in true_false (sym (end_stops flow blank _) ∙ rw z at f))
 
-  pub high_goes : 128 ≤ b → (c n : ℕ) → first (drop at s) ≡ Char c n → is_bom c ≡ false → n ≡ text_length flow blank s at
+  pub high_goes : 128 ≤ b → (c n : ℕ) → first (drop at s) ≡ Char c n → is_bom c ≡ false → Some n ≡ text_length flow blank s at
   unfolding taken
   high_goes h c n f g =
       let k : at < length s = byte_within s at b e (omega arith) in
       let w : 128 ≤ c = first_high b (drop (suc at) s) c n h (rw (drop-cons s at 0 k, ← e) at f) in
       rw (f, unmarked flow blank c (peek (chars (drop (at + n) s)) 0) (high_unmarked c w g))
 
-  pub usual_goes : usual b (get_or s (at + 1) 0) (get_or s (at + 2) 0) ≡ true → 3 ≡ text_length flow blank s at
+  pub usual_goes : usual b (get_or s (at + 1) 0) (get_or s (at + 2) 0) ≡ true → Some 3 ≡ text_length flow blank s at
   unfolding usual len_of three is_scalar is_bom
   usual_goes u =
       let x = get_or s (at + 1) 0 in
@@ -137,12 +138,12 @@ module _ (flow blank : Bool) (s : List ℕ) (at b : ℕ) (e : b ≡ get_or s at 
       let w : Char v 3 ≡ three b x y = rw (t.0, t.1, le-leb 0x800 v v0, lt-ltb v 0xd800 v1, lt-ltb v 0x110000 v2) in
       high_goes (omega arith) v 3 (sym (case3 s at (byte_within s at b e (omega arith)) 3 (rw (← e) n) refl x y (Char v 3) refl refl (rw (← e) w))) (ne_eqb v byte_order_mark (omega arith))
 
-pub high_stops : (flow blank : Bool) (s : List ℕ) (at c n : ℕ) → first (drop at s) ≡ Char c n → is_bom c ≡ true → 0 ≡ text_length flow blank s at
+pub high_stops : (flow blank : Bool) (s : List ℕ) (at c n : ℕ) → first (drop at s) ≡ Char c n → is_bom c ≡ true → None ≡ text_length flow blank s at
 unfolding taken
 high_stops flow blank s at c n f g = rw (f, bom_stops flow blank c (peek (chars (drop (at + n) s)) 0) g)
 
 pub none_length : (flow blank : Bool) (s : List ℕ) (at : ℕ) (d : Decoded) → d ≡ first (drop at s) → ((c n : ℕ) → d ≡ Char c n → ⊥)
-    → 0 ≡ text_length flow blank s at
+    → None ≡ text_length flow blank s at
 unfolding taken
 none_length flow blank s at (Char c n) e k = absurd (k c n refl)
 none_length flow blank s at Ill e k = rw (← e)
@@ -154,23 +155,24 @@ pub record IsText (flow blank : Bool) (s : List ℕ) (at n : ℕ) : Type 0 where
   pub is : CharAt s at char n
   pub on : plain_stops flow blank char (peek (chars (drop (at + n) s)) 0) ≡ false
 
-pub goes_by : (flow blank : Bool) (s : List ℕ) (at : ℕ) (d : Decoded) → first (drop at s) ≡ d → (n : ℕ) → n ≡ taken flow blank s at d → (n ≡ 0 → ⊥)
+pub goes_by : (flow blank : Bool) (s : List ℕ) (at : ℕ) (d : Decoded) → first (drop at s) ≡ d → (n : ℕ) → taken flow blank s at d ≡ Some n
     → IsText flow blank s at n
 unfolding taken
-goes_by flow blank s at (Char c k) f n e h =
+goes_by flow blank s at (Char c k) f n e =
     by_test (plain_stops flow blank c (peek (chars (drop (at + k) s)) 0))
-    (λ t. absurd (h (e ∙ rw t)))
-    (λ t. let z : n ≡ k = e ∙ rw t in rw z (record { char = c; is = char_at s at c k f; on = t }))
-goes_by flow blank s at Ill f n e h = absurd (h e)
-goes_by flow blank s at End f n e h = absurd (h e)
+    (λ t. let z : ◌≡◌ {A = Option ℕ} None (Some n) = rw t at e in cc)
+    (λ t. let w : ◌≡◌ {A = Option ℕ} (Some k) (Some n) = rw t at e in
+    let z : n ≡ k = cc in
+    rw z (record { char = c; is = char_at s at c k f; on = t }))
+goes_by flow blank s at Ill f n e = cc
+goes_by flow blank s at End f n e = cc
 
-pub stops_by : (flow blank : Bool) (s : List ℕ) (at : ℕ) (d : Decoded) → first (drop at s) ≡ d → taken flow blank s at d ≡ 0 → (m : Mark)
+pub stops_by : (flow blank : Bool) (s : List ℕ) (at : ℕ) (d : Decoded) → first (drop at s) ≡ d → taken flow blank s at d ≡ None → (m : Mark)
     → plain_text flow blank m (chars (drop at s)) ≡ nothing_at (here m (chars (drop at s)))
 unfolding taken plain_text
 stops_by flow blank s at (Char c k) f e m =
-    let a = char_at s at c k f in
     by_test (plain_stops flow blank c (peek (chars (drop (at + k) s)) 0))
-    (λ t. rw a.next (plain_stop flow blank m c (chars (drop (at + k) s)) t))
-    (λ t. let z : k ≡ 0 = rw t at e in absurd (omega (arith, a.some)))
+    (λ t. rw (char_at s at c k f).next (plain_stop flow blank m c (chars (drop (at + k) s)) t))
+    (λ t. let z : ◌≡◌ {A = Option ℕ} (Some k) None = rw t at e in cc)
 stops_by flow blank s at Ill f e m = rw (none_ill s at f)
 stops_by flow blank s at End f e m = rw (none_end s at f)

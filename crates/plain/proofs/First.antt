@@ -5,11 +5,13 @@ use mathlib.Core.List.{List, ◌∷◌}
 use mathlib.Core.Path.{◌∙◌, ◌≡◌, ap, refl, sym}
 use native.Mathlib.Omega.{arith}
 use lib.Dec.{ltb}
+use Rattle.std.proofs.Common.{Ok, Result}
 use lib.ListN.{drop, get_or, length, take}
 use lib.Seq.{length-take-le, sets}
 use borrow.Author.Tests.{eqb-false}
 use Rattle.yaml_text.specs.declared.Decoded.TheVariants.{Char, Ill}
 use Rattle.yaml_text.specs.declared.Mark.{Mark}
+use Rattle.yaml_text.specs.declared.Refusal.{Refusal}
 use Rattle.yaml_text.specs.Class.{is_z, peek}
 use Rattle.yaml_text.specs.Mark.{along}
 use Rattle.yaml_text.specs.Refusal.{got}
@@ -23,8 +25,7 @@ use Rattle.chars.specs.Bytes.{CharAt, peek_char}
 use Rattle.chars.specs.Parts.{Spans, part_join, part_more}
 use Rattle.chars.specs.Places.{stands_along}
 use Rattle.chars.specs.View.{Stands, past, view}
-use Rattle.reading.specs.declared.Reading.{Reading}
-use Rattle.reading.specs.declared.Reading.TheVariants as reading
+use Rattle.reading.specs.declared.Lexeme.{Lexeme}
 use Rattle.reading.specs.Reading.{ReaderGiven, Lexes}
 use Rattle.reading.specs.Reading as readings
 use Rattle.reading.specs.Scalars.{scalar_at, scalar_got}
@@ -85,9 +86,9 @@ module _ (flow : Bool) {text : List ℕ} {used : ℕ} {start : Mark} {c n : ℕ}
   pub first_stands : Stands text behind_first
   first_stands = stands_along g.stands n 1 a.some a.within
 
-  pub plain_got : {before after : List ℕ} {e : Place} {r : Reading}
+  pub plain_got : {before after : List ℕ} {e : Place} {r : Result Lexeme Refusal}
       → Spans text behind_first e (plain_text flow false (along start) (chars (drop (0 + n) text))) → after ≡ sets before 0 (take e.at text)
-      → r ≡ reading.Got (scalar_at Plain used e.at start e) → Lexes text before after used r (got (scan_plain_scalar flow (view text (readings.first_at start))))
+      → r ≡ Ok (scalar_at Plain used e.at start e) → Lexes text before after used r (got (scan_plain_scalar flow (view text (readings.first_at start))))
   unfolding scan_plain_scalar encode
   plain_got {before} {after} {e} {r} k b f =
       let d = plain_text flow false (along start) (chars (drop (0 + n) text)) in

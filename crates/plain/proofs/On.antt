@@ -3,6 +3,7 @@ use Prim.Native.Nat.{◌+◌, ◌-◌, ◌<◌, ◌≤◌, ℕ}
 use mathlib.Core.Bool.{Bool, false, true}
 use mathlib.Core.List.{List, []}
 use mathlib.Core.Path.{◌∙◌, ◌≡◌, ap, refl, sym}
+use Rattle.std.proofs.Common.{None}
 use native.Mathlib.Omega.{arith}
 use lib.Dec.{ltb}
 use lib.ListN.{drop, get_or, length}
@@ -21,7 +22,7 @@ use Rattle.chars.specs.Parts.{Spans, part, part_more, part_none}
 use Rattle.chars.specs.Places.{stands_along}
 use Rattle.chars.specs.View.{Stands}
 use Rattle.plain.specs.Text.{text_length}
-use Rattle.plain.proofs.Ends.{IsText, blank_unmarked, goes_by, ordinary_ascii, ordinary_unblank, ordinary_unmarked, stops_by, unmarked}
+use Rattle.plain.proofs.Ends.{IsText, blank_unmarked, ordinary_ascii, ordinary_unblank, ordinary_unmarked, stops_by, unmarked}
 use Rattle.plain.proofs.TextTurns.{Coded, coded, resume, resume_here, turn_blank, turn_text}
 
 -- the mark at an offset behind p on its line, `extra` bytes on the way being no characters
@@ -95,16 +96,16 @@ module _ {s : List ℕ} {flow : Bool} {p : Place} {at end extra : ℕ} (o : On s
               (turn_blank flow (ltb end at) (mark_at p at extra) b _ (part s p.at at) (ended s p end extra) (unmarked flow (ltb end at) b _ (blank_unmarked b h)) h);
         }
 
-    pub on_other : is_blank b ≡ false → (n : ℕ) → n ≡ text_length flow (ltb end at) s at → (n ≡ 0 → ⊥) → On s flow p (at + n) (at + n) (extra + (n - 1))
-    on_other h n f z = on_text h (goes_by flow (ltb end at) s at (first (drop at s)) refl n f z) (extra + (n - 1)) (omega arith)
+    pub on_other : is_blank b ≡ false → {n : ℕ} → IsText flow (ltb end at) s at n → On s flow p (at + n) (at + n) (extra + (n - 1))
+    on_other h {n} g = on_text h g (extra + (n - 1)) (omega (arith, g.is.some))
 
-  pub on_done : Stands s p → (n : ℕ) → n ≡ text_length flow (ltb end at) s at → n ≡ 0 → (r : Place) → r ≡ record { at = end; mark = mark_at p end extra }
+  pub on_done : Stands s p → text_length flow (ltb end at) s at ≡ None → (r : Place) → r ≡ record { at = end; mark = mark_at p end extra }
       → Spans s p r (plain_text flow false p.mark (chars (drop p.at s)))
   unfolding none_left
-  on_done h n e z r k =
+  on_done h e r k =
       let f : p.at + (end - p.at) ≡ end = omega (arith, o) in
       let w : coded (plain_text flow false p.mark (chars (drop p.at s))) ≡ ended s p end extra =
-      o.whole ∙ rw (stops_by flow (ltb end at) s at (first (drop at s)) refl (sym e ∙ z) (mark_at p at extra)) in
+      o.whole ∙ rw (stops_by flow (ltb end at) s at (first (drop at s)) refl e (mark_at p at extra)) in
       rw k
       (record {
         moves = record {

@@ -1,6 +1,7 @@
 -- The first character is text whatever it is, and `text_end` tells the rest.
 use mathlib.Core.Path.{◌∙◌, ◌≡◌, ap, sym}
 use lib.Seq.{length-take-le}
+use Rattle.std.proofs.Common.{Ok}
 use Rattle.yaml_text.specs.Class.{peek}
 use Rattle.yaml_text.specs.Mark.{along}
 use Rattle.yaml_text.specs.Utf8.{chars}
@@ -31,4 +32,4 @@ pub returns : goal.returns
 returns c =
     let first : CharAt c.args.text.now 0 (peek (chars c.args.text.now) 0) c.lead_len-len.result = first_char _ c.requires.1 _ _ c.byte.ensures c.lead_len-len.ensures in
     let second : let m = c.args.start in c.skip_non_blank.result ≡ past (first_at m) c.lead_len-len.result (along m) = c.skip_non_blank.ensures ∙ ap (λ (p : Place). past p c.lead_len-len.result (along p.mark)) c.first_at-first.ensures in
-    plain_got _ c.requires.0 (first) (rw (second) at c.text_end-e.ensures) c.copy.ensures (c.got.ensures ∙ rw c.text_at.ensures)
+    plain_got _ c.requires.0 (first) (rw (second) at c.text_end-e.ensures) c.copy.ensures (ap Ok (c.new.ensures ∙ rw c.text_at.ensures))
