@@ -9,7 +9,7 @@ use lib.ListN.{get_or, length, set}
 use lib.Seq.{get_or-set_other, get_or-set_same}
 use Rattle.stacks.specs.Stack.{entry_words}
 use Rattle.stacks.specs.Most.{at_most_fits, at_most_stays}
-use Rattle.stacks.specs.Indent.{Below, EntriesStay, Low, entries_of, entry_of, most_at, word_of}
+use Rattle.stacks.specs.Indent.{Below, EntriesStay, Low, entries_of, entry_of, left_below, most_at, word_of}
 use Rattle.stacks.specs.declared.indent.Indents.{Indents}
 
 pub entries_length : (a : List ℕ) (d : ℕ) → length (entries_of a d) ≡ d
@@ -65,15 +65,12 @@ entries_none a d h = let e : d ≡ 0 = omega arith in rw e
 pub low_start : (room : ℕ) → Low room (record { indent = 0; depth = 0 })
 low_start room = record { deep = omega arith; indent = omega arith }
 
--- one entry less
-abbrev pub popped : List ℕ → ℕ → Indents
-popped a d = record { indent = (entry_of (d - 1) (get_or a (d - 1) 0)).old; depth = d - 1 }
-
 pub below_same : {i : Indents} → i.indent ≤ most_at i.depth → Below i i
 below_same h = record { depth = omega arith; indent = h }
 
-pub below_pop : (a : List ℕ) {i r : Indents} → Below i r → 0 < r.depth → Below i (popped a r.depth)
-below_pop a {r = r} w h = record { depth = omega (arith, w.depth); indent = at_most_fits (most_at (r.depth - 1)) (get_or a (r.depth - 1) 0 / 2) }
+-- one entry less
+pub below_pop : (a : List ℕ) {i r : Indents} (k : ℕ) → Below i r → k < r.depth → Below i (left_below a k)
+below_pop a k w h = record { depth = omega (arith, w.depth); indent = at_most_fits (most_at k) (get_or a k 0 / 2) }
 
 -- where entries went the bounds stay
 pub low_below : {room : ℕ} {i r : Indents} → Low room i → Below i r → Low room r

@@ -24,6 +24,10 @@ unfoldable pub entries_of : List ℕ → ℕ → List Entry
 entries_of a zero = []
 entries_of a (suc d) = entry_of d (get_or a d 0) ∷ entries_of a d
 
+-- what is left when the entry at place k goes
+abbrev pub left_below : List ℕ → ℕ → Indents
+left_below a k = record { indent = (entry_of k (get_or a k 0)).old; depth = k }
+
 -- what the definition sees
 abbrev pub indents_seen : List ℕ → Indents → definition.Indents
 indents_seen a i = indents_of i.indent (entries_of a i.depth)

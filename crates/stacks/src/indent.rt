@@ -3,7 +3,7 @@
 ghost use Rattle.std.specs.Prelude.{◌≡◌, ◌+◌, ◌^◌, ◌<◌, ◌≤◌, length, set};
 ghost use Rattle.yaml_scan.specs.Indent.{drop_for, drop_non_ending, top_ends};
 ghost use Rattle.stacks.specs.Stack.{entry_words};
-ghost use Rattle.stacks.specs.Indent.{Low, Lowers, Unrolls, entries_of, entry_of, most_at, word_of};
+ghost use Rattle.stacks.specs.Indent.{Low, Lowers, Unrolls, entries_of, left_below, most_at, word_of};
 ghost use Rattle.stacks.specs.Roll.{Rolls, Stacks, full_at, one_more};
 
 use crate::STACK_WORDS;
@@ -36,18 +36,18 @@ pub fn top_ends(stacks: &[u32; STACK_WORDS], depth: usize) -> bool
     requires { depth ≤ length stacks.now }
     ensures { result ≡ top_ends (entries_of stacks.now depth) }
 {
-    if depth == 0 {
-        return false;
-    }
-    stacks[depth - 1] % 2 == 1
+    0 < depth && stacks[depth - 1] % 2 == 1
 }
 
-// The indent that is taken back when the entry at that place goes.
-fn taken_back(entry: u32, place: usize) -> u32
+// What is left when the entry at that place goes: those below it, and the indent that is taken back.
+fn left_below(stacks: &[u32; STACK_WORDS], place: usize) -> Indents
     requires { place < entry_words }
-    ensures { result ≡ (entry_of place entry).old }
+    ensures { result ≡ left_below stacks.now place }
 {
-    (entry / 2).min(1_048_577 + place as u32)
+    Indents {
+        indent: (stacks[place] / 2).min(1_048_577 + place as u32),
+        depth: place,
+    }
 }
 
 // Entries go while the indent is above the column.
@@ -55,22 +55,16 @@ pub fn unroll(stacks: &[u32; STACK_WORDS], edge: u32, from: Indents) -> Unrolled
     requires { Low entry_words from }
     ensures { Unrolls stacks.now edge from result }
 {
-    let mut indent = from.indent;
-    let mut depth = from.depth;
-    let mut ended: u32 = 0;
-    while 0 < depth && edge < indent {
-        depth -= 1;
-        let entry = stacks[depth];
-        indent = taken_back(entry, depth);
-        ended += entry % 2;
+    let mut indents = from;
+    let mut ended = 0;
+    for place in (0..from.depth).rev() {
+        if indents.indent <= edge {
+            break;
+        }
+        ended += stacks[place] % 2;
+        indents = left_below(stacks, place);
     }
-    Unrolled {
-        ended: ended,
-        indents: Indents {
-            indent: indent,
-            depth: depth,
-        },
-    }
+    Unrolled { ended, indents }
 }
 
 // The entries that end no block go, as a block scalar does it.
@@ -78,16 +72,14 @@ pub fn drop_non_ending(stacks: &[u32; STACK_WORDS], from: Indents) -> Indents
     requires { Low entry_words from }
     ensures { Lowers stacks.now from result (drop_non_ending from.indent (entries_of stacks.now from.depth)) }
 {
-    let mut indent = from.indent;
-    let mut depth = from.depth;
-    while 0 < depth && stacks[depth - 1] % 2 == 0 {
-        depth -= 1;
-        indent = taken_back(stacks[depth], depth);
+    let mut indents = from;
+    for place in (0..from.depth).rev() {
+        if stacks[place] % 2 == 1 {
+            break;
+        }
+        indents = left_below(stacks, place);
     }
-    Indents {
-        indent: indent,
-        depth: depth,
-    }
+    indents
 }
 
 // A non-ending top entry is dropped if the indent is at most the column.
@@ -95,21 +87,10 @@ fn drop_for(stacks: &[u32; STACK_WORDS], edge: u32, from: Indents) -> Indents
     requires { Low entry_words from }
     ensures { Lowers stacks.now from result (drop_for edge from.indent (entries_of stacks.now from.depth)) }
 {
-    let depth = from.depth;
-    if depth == 0 {
+    if from.depth == 0 || edge < from.indent || top_ends(stacks, from.depth) {
         return from;
     }
-    if edge < from.indent {
-        return from;
-    }
-    let entry = stacks[depth - 1];
-    if entry % 2 == 1 {
-        return from;
-    }
-    Indents {
-        indent: taken_back(entry, depth - 1),
-        depth: depth - 1,
-    }
+    left_below(stacks, from.depth - 1)
 }
 
 // An entry as a word.

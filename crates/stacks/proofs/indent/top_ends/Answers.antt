@@ -2,8 +2,8 @@
 use Rattle.stacks.proofs.Drops.{top_none, top_some}
 use Rattle.stacks.proofs.indent.top_ends.Goals as goal
 
-pub returns-then-depth-eq0 : goal.returns-then-depth-eq0
-returns-then-depth-eq0 c = let a = c.args in top_none a.stacks.now a.depth c.if-depth-eq0.true
+pub returns-then-depth-gt0 : goal.returns-then-depth-gt0
+returns-then-depth-gt0 c = let a = c.args in top_some a.stacks.now a.depth c.if-depth-gt0.true
 
-pub returns : goal.returns
-returns c = let a = c.args in top_some a.stacks.now a.depth c.if-depth-eq0.false
+pub returns-else-depth-gt0 : goal.returns-else-depth-gt0
+returns-else-depth-gt0 c = let a = c.args in top_none a.stacks.now a.depth c.if-depth-gt0.false
