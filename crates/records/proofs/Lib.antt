@@ -1,5 +1,4 @@
 pub mod Reading
 pub mod Order
 pub mod Rows
-pub mod Same
 pub mod Strict

@@ -1,31 +1,36 @@
 -- The token of a record: the one by its number, if the words are its record.
 use Prim.Native.Nat.{◌+◌, ◌<◌, ℕ}
 use mathlib.Core.Bool.{Bool, false, true}
+use Rattle.std.specs.Bool.{Decides, then_some}
+use Rattle.std.specs.Option.{MatchOption}
+use Rattle.std.proofs.lemmas.Bool.Decides.{same_from_decides}
+use Rattle.std.proofs.lemmas.Slice.Eq.{compares_Decides}
 use mathlib.Core.List.{List}
 use mathlib.Core.Path.{◌∙◌, ◌≡◌, ap, sym}
+use Rattle.std.proofs.Common.{rules}
 use native.Mathlib.Omega.{arith}
 use lib.ListN.{drop, length, length-drop, length-take, take}
 use Rattle.yaml_text.specs.Class.{same}
-use Rattle.yaml_lexeme.specs.declared.Recorded.{Recorded}
-use Rattle.yaml_lexeme.specs.declared.Recorded.TheVariants.{Found, NoToken}
+use Rattle.std.specs.Prelude.{Option, Some, None}
 use Rattle.yaml_lexeme.specs.declared.Token.{Token}
 use Rattle.yaml_lexeme.specs.Record.{if_record, record_of, record_words, token_by_number, token_of}
 use Rattle.yaml_lexeme.specs.RecordLaws.{no_record}
 
-module _ (w : List ℕ) {r : Recorded} (e : r ≡ token_by_number w) where
-  by_number : (q : Recorded) → r ≡ q → if_record w q ≡ token_of w
-  unfolding token_of
-  by_number q f = ap (λ (x : Recorded). if_record w x) (sym f ∙ e)
+same_decides : (l m : List ℕ) → Decides (same l m) (l ≡ m)
+unfolding same
+same_decides = compares_Decides same (search rules)
 
-  pub none_numbered : r ≡ NoToken → NoToken ≡ token_of w
-  none_numbered f = by_number NoToken f
-
-  pub its_record : (t : Token) {l : List ℕ} {b : Bool} → r ≡ Found t → l ≡ record_of t → b ≡ same l w → b ≡ true → Found t ≡ token_of w
-  its_record t f g h k = let s : same (record_of t) w ≡ true = ap (λ (l : List ℕ). same l w) (sym g) ∙ sym h ∙ k in rw (s, if_record) at (by_number (Found t) f)
-
-  pub not_its_record : (t : Token) {l : List ℕ} {b : Bool} → r ≡ Found t → l ≡ record_of t → b ≡ same l w → b ≡ false → NoToken ≡ token_of w
-  not_its_record t f g h k = let s : same (record_of t) w ≡ false = ap (λ (l : List ℕ). same l w) (sym g) ∙ sym h ∙ k in rw (s, if_record) at (by_number (Found t) f)
+-- the token by the number of words, where the words are its record
+pub its_token : {P : Token → Bool → Type 0} (w : List ℕ) (p r : Option Token) → p ≡ token_by_number w → ((t : Token) (b : Bool) → P t b → Decides b (record_of t ≡ w))
+    → MatchOption p (r ≡ None) (λ t. (b : Bool) × P t b × (r ≡ then_some b t)) → r ≡ token_of w
+unfolding token_of
+its_token w None r e f m = m ∙ ap (λ (p : Option Token). if_record w p) e
+its_token w (Some t) r e f m = if_its w t r m.0 (same_from_decides m.0 (same (record_of t) w) (f t m.0 m.1) (same_decides (record_of t) w)) m.2 ∙ ap (λ (p : Option Token). if_record w p) e
+  where
+    if_its : (w : List ℕ) (t : Token) (r : Option Token) (b : Bool) → b ≡ same (record_of t) w → r ≡ then_some b t → r ≡ if_record w (Some t)
+    if_its w t r true g h = h ∙ rw (sym g, if_record)
+    if_its w t r false g h = h ∙ rw (sym g, if_record)
 
 -- fewer words than a record has
-pub too_short : (l : List ℕ) (at : ℕ) → length l < at + record_words → NoToken ≡ token_of (take record_words (drop at l))
+pub too_short : (l : List ℕ) (at : ℕ) → length l < at + record_words → None ≡ token_of (take record_words (drop at l))
 too_short l at h = sym (no_record (take record_words (drop at l)) (λ e. absurd (omega (arith, length-take record_words (drop at l), length-drop at l))))

@@ -1,6 +1,5 @@
 // The token of a record.
 ghost use Rattle.std.specs.Prelude.{◌≡◌, drop, get_or, take};
-ghost use Rattle.yaml_text.specs.Class.{same};
 ghost use Rattle.yaml_lexeme.specs.declared.Kind.TheVariants.{ReservedDirective, Scalar, Tag, TagDirective, VersionDirective};
 ghost use Rattle.yaml_lexeme.specs.Table.{looked_up};
 ghost use Rattle.yaml_lexeme.specs.Record.{record_words, scalar_rows, token_by_number, token_of, with_marks};
@@ -116,34 +115,11 @@ fn token_by_number(w: [u32; RECORD_WORDS]) -> Option<Token>
     }
 }
 
-fn same_words(a: &[u32], b: &[u32]) -> bool
-    ensures { result ≡ same a.now b.now }
-{
-    if a.len() != b.len() {
-        return false;
-    }
-    let mut i = 0;
-    while i < a.len() {
-        if a[i] != b[i] {
-            return false;
-        }
-        i += 1;
-    }
-    true
-}
-
 // The token whose record w is.
 fn token_in(w: [u32; RECORD_WORDS]) -> Option<Token>
     ensures { result ≡ token_of w }
 {
-    let r = token_by_number(w);
-    let Some(t) = r else {
-        return None;
-    };
-    if same_words(&record_of(t), &w) {
-        return Some(t);
-    }
-    None
+    token_by_number(w).filter(|t| record_of(*t) == w)
 }
 
 // The token of the record that begins at `at`: for whoever reads records back.

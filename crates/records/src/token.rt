@@ -1,14 +1,15 @@
 // The words of a token's record.
 ghost use Rattle.std.specs.Prelude.{◌≡◌};
 ghost use Rattle.yaml_lexeme.specs.Record.{number_of, record_of, values_of};
-ghost use Rattle.records.specs.Kinds.{five, kind_place, style_place};
+ghost use Rattle.records.specs.Kinds.{five};
 
 use crate::RECORD_WORDS;
-use yaml_lexeme::{Kind, Style, Token};
+use yaml_lexeme::{Kind, Token};
 
-// The place of a kind in the order of kinds.
-fn kind_place(k: Kind) -> u32
-    ensures { result ≡ kind_place k }
+// Word 1: the number of a kind.
+#[tactic(auto, unfolding(yaml_lexeme::specs::Record::number_of))]
+pub fn kind_number(k: Kind) -> u32
+    ensures { result ≡ number_of k }
 {
     match k {
         Kind::StreamStart => 1,
@@ -37,26 +38,6 @@ fn kind_place(k: Kind) -> u32
     }
 }
 
-// Word 1: the number of a kind.
-pub fn kind_number(k: Kind) -> u32
-    ensures { result ≡ number_of k }
-{
-    kind_place(k)
-}
-
-// Word 12 of a scalar.
-fn style_number(s: Style) -> u32
-    ensures { result ≡ style_place s }
-{
-    match s {
-        Style::Plain => 1,
-        Style::SingleQuoted => 2,
-        Style::DoubleQuoted => 3,
-        Style::Literal => 4,
-        Style::Folded => 5,
-    }
-}
-
 // Words 8 to 12.
 fn values_of(k: Kind) -> [u32; 5]
     ensures { result ≡ five (values_of k) }
@@ -67,7 +48,7 @@ fn values_of(k: Kind) -> [u32; 5]
         Kind::Alias(a) => [a.at, a.len, 0, 0, 0],
         Kind::Anchor(a) => [a.at, a.len, 0, 0, 0],
         Kind::Tag { handle, suffix } => [handle.at, handle.len, suffix.at, suffix.len, 0],
-        Kind::Scalar { style, text } => [text.at, text.len, 0, 0, style_number(style)],
+        Kind::Scalar { style, text } => [text.at, text.len, 0, 0, style as u32],
         Kind::ReservedDirective { name, parameters } => [
             name.at,
             name.len,

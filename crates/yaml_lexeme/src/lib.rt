@@ -3,10 +3,10 @@
 
 use yaml_text::Mark;
 
-// The styles of scalars, in the crate's order.
+// The styles of scalars, in the crate's order, by their numbers in a record.
 #[derive(Clone, Copy)]
 pub enum Style {
-    Plain,
+    Plain = 1,
     SingleQuoted,
     DoubleQuoted,
     Literal,

@@ -1,12 +1,9 @@
 -- The token by its number, if the words are its record.
-use Rattle.records.proofs.Strict.{its_record, none_numbered, not_its_record}
+use Rattle.std.proofs.Common.{rules}
+use Rattle.std.proofs.lemmas.Bool.Decides.{Decides-eqb}
+use Rattle.std.proofs.lemmas.Slice.Eq.{slice_eq-Decides}
+use Rattle.records.proofs.Strict.{its_token}
 use Rattle.records.proofs.found.token_in.Goals as goal
 
-pub returns-in_default : goal.returns-in_default
-returns-in_default c = none_numbered _ c.token_by_number-r.ensures c.in_default.is
-
-pub returns-then-same_words : goal.returns-then-same_words
-returns-then-same_words c = its_record _ c.token_by_number-r.ensures _ c.in-Found.is c.record_of.ensures c.same_words.ensures c.if-same_words.true
-
 pub returns : goal.returns
-returns c = not_its_record _ c.token_by_number-r.ensures _ c.in-Found.is c.record_of.ensures c.same_words.ensures c.if-same_words.false
+returns c = its_token c.args.w _ _ c.token_by_number.ensures (λ t b k. search (rules, slice_eq-Decides, Decides-eqb)) c.filter.ensures

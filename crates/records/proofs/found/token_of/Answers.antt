@@ -8,6 +8,3 @@ returns-then-words-lt-RECORD_WORDS c = let a = c.args in too_short a.words.now a
 
 pub returns-then-words-at : goal.returns-then-words-at
 returns-then-words-at c = let a = c.args in too_short a.words.now a.at (omega (arith, c.if-words-at.true))
-
-pub returns : goal.returns
-returns c = rw (← c.load.ensures) c.token_in.ensures

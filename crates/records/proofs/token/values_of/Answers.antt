@@ -32,7 +32,7 @@ returns-in-Tag c = told c.in-Tag.is
 
 pub returns-in-Scalar : goal.returns-in-Scalar
 unfolding values_of
-returns-in-Scalar c = rw (c.style_number.ensures, ← style_placed) (told c.in-Scalar.is)
+returns-in-Scalar c = rw (← style_placed) (told c.in-Scalar.is)
 
 pub returns-in-ReservedDirective : goal.returns-in-ReservedDirective
 unfolding values_of
