@@ -1,4 +1,2 @@
 pub mod Reading
-pub mod Order
-pub mod Rows
 pub mod Strict

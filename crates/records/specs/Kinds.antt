@@ -1,5 +1,5 @@
 -- The numbers of kinds and styles are their places in the order of their types, from 1.
-use Rattle.std.specs.Prelude.{◌+◌, ◌<◌, ℕ, true, List, [], ◌∷◌, ◌≡◌, refl, ltb}
+use Rattle.std.specs.Prelude.{◌+◌, ◌<◌, ℕ, true, List, [], ◌∷◌, ◌≡◌, refl, ltb, Option, Some, None}
 use types.Run.{OneOf, miss}
 use denote.Enum.Declared.{tag_of}
 use Rattle.std.proofs.Common.{ltb-true}
@@ -7,9 +7,10 @@ use Rattle.yaml_lexeme.specs.declared.Kind.{Kind}
 use Rattle.yaml_lexeme.specs.declared.Kind.TheVariants.{Alias, Anchor, BlockEnd, BlockEntry, BlockMappingStart, BlockSequenceStart, ByteOrderMark, DocumentEnd, DocumentStart, FlowEntry, FlowMappingEnd, FlowMappingStart, FlowSequenceEnd, FlowSequenceStart, Key, ReservedDirective, Scalar, StreamEnd, StreamStart, Tag, TagDirective, Value, VersionDirective}
 use Rattle.yaml_lexeme.specs.declared.Style.{Style}
 use Rattle.yaml_lexeme.specs.declared.Style.TheVariants.{DoubleQuoted, Folded, Literal, Plain, SingleQuoted}
+use Rattle.yaml_lexeme.specs.declared.Token.{Token}
 use Rattle.yaml_lexeme.specs.contracts.Kind.{the_type as kinds}
 use Rattle.yaml_lexeme.specs.contracts.Style.{the_type as styles}
-use Rattle.yaml_lexeme.specs.Record.{number_of, style_number, values_of}
+use Rattle.yaml_lexeme.specs.Record.{number_of, style_number, values_of, with_marks}
 
 -- what a note is counted by in word 1, above the number of a kind
 abbrev pub note_base : ℕ
@@ -28,6 +29,11 @@ silent = 0 ∷ 1 ∷ 4 ∷ 5 ∷ 6 ∷ 7 ∷ 8 ∷ 9 ∷ 10 ∷ 11 ∷ 12 ∷ 13
 -- words 8 to 12 in a row
 abbrev pub five : ℕ × ℕ × ℕ × ℕ × ℕ → List ℕ
 five v = v.0 ∷ v.1 ∷ v.2 ∷ v.3 ∷ v.4 ∷ []
+
+-- the token of a kind that was found, with the marks of the words w
+abbrev pub marked : List ℕ → Option Kind → Option Token
+marked w None = None
+marked w (Some k) = with_marks w k
 
 -- what is known of each kind
 abbrev Known : Kind → Type 0

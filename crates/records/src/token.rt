@@ -39,6 +39,7 @@ pub fn kind_number(k: Kind) -> u32
 }
 
 // Words 8 to 12.
+#[tactic(auto, unfolding(yaml_lexeme::specs::Record::values_of, yaml_lexeme::specs::Record::style_number))]
 fn values_of(k: Kind) -> [u32; 5]
     ensures { result ≡ five (values_of k) }
 {
@@ -60,23 +61,23 @@ fn values_of(k: Kind) -> [u32; 5]
     }
 }
 
+#[tactic(auto, unfolding(yaml_lexeme::specs::Record::record_of))]
 pub fn record_of(t: Token) -> [u32; RECORD_WORDS]
     ensures { result ≡ record_of t }
 {
-    let k = t.kind;
-    let v = values_of(k);
+    let [a, b, c, d, e] = values_of(t.kind);
     [
-        kind_number(k),
+        kind_number(t.kind),
         t.start.index,
         t.start.line,
         t.start.col,
         t.end.index,
         t.end.line,
         t.end.col,
-        v[0],
-        v[1],
-        v[2],
-        v[3],
-        v[4],
+        a,
+        b,
+        c,
+        d,
+        e,
     ]
 }
