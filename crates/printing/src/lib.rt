@@ -1,13 +1,13 @@
 // Numbers as text, and the lines of records.
 #![tactic(auto)]
 
-ghost use Rattle.std.specs.Prelude.{◌≡◌, ◌*◌, ◌+◌, ◌<◌, ◌^◌, ◌≤◌, eqb, drop, length, take};
-ghost use Rattle.yaml_text.specs.Pick.{pick};
+ghost use Rattle.std.specs.Prelude.{◌≡◌, ◌*◌, ◌+◌, ◌<◌, ◌^◌, ◌≤◌, drop, length, take};
 ghost use Rattle.yaml_lexeme.specs.Record.{record_words};
 ghost use Rattle.printing.specs.Lines.{lines_text, number_text, numbers_line};
 ghost use Rattle.printing.specs.Listing.{listed, token_lines};
 ghost use Rattle.printing.specs.Written.{Written};
 
+use chars::pick::pick;
 use records::RECORD_WORDS;
 use rooms::{copy, put};
 
@@ -25,13 +25,6 @@ fn put_number(out: &mut [u8], at: usize, v: u32, end: u8) -> usize
     at + n + 1
 }
 
-// The byte behind a number that so many follow.
-fn separator(left: usize, between: u8, end: u8) -> u8
-    ensures { result ≡ pick (eqb left 0) end between }
-{
-    if left == 0 { end } else { between }
-}
-
 // Numbers from `at` on, with a byte between and another at the end; where the next goes.
 pub fn put_numbers(out: &mut [u8], at: usize, numbers: &[u32], between: u8, end: u8) -> usize
     requires { (at < 2 ^ 60) × (length numbers.now < 2 ^ 32) }
@@ -39,11 +32,9 @@ pub fn put_numbers(out: &mut [u8], at: usize, numbers: &[u32], between: u8, end:
     ensures upper_bound { result ≤ at + 11 * length numbers.now }
 {
     let mut next = at;
-    let mut i = 0;
-    while i < numbers.len() {
+    for (i, n) in numbers.iter().enumerate() {
         let left = numbers.len() - i - 1;
-        next = put_number(out, next, numbers[i], separator(left, between, end));
-        i += 1;
+        next = put_number(out, next, *n, pick(left == 0, end, between));
     }
     next
 }
@@ -54,8 +45,8 @@ pub fn say_numbers(numbers: &[u32], end: u8) -> usize
     ensures { result ≡ length (numbers_line 32 end numbers.now) }
 {
     let mut space = [0u8; 11 * RECORD_WORDS];
-    let n = put_numbers(&mut space, 0, numbers, 32, end);
-    io::write_all(STANDARD_OUTPUT, &space[0..n]);
+    let n = put_numbers(&mut space, 0, numbers, b' ', end);
+    io::write_all(STANDARD_OUTPUT, &space[..n]);
     n
 }
 
@@ -85,11 +76,9 @@ pub fn put_records(out: &mut [u8], at: usize, words: &[u32], t: u32) -> usize
     ensures upper_bound { result ≤ at + 110 * t }
 {
     let mut next = at;
-    let mut n: u32 = 0;
-    while n < t {
+    for n in 0..t {
         let numbers = listed_words(words, n as usize * RECORD_WORDS);
-        next = put_numbers(out, next, &numbers, 32, 10);
-        n += 1;
+        next = put_numbers(out, next, &numbers, b' ', b'\n');
     }
     next
 }

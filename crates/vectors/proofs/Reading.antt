@@ -3,10 +3,11 @@ use Prim.Native.Nat.{◌*◌, ◌+◌, ◌<◌, ◌≤◌, suc, ℕ}
 use mathlib.Core.List.{List, [], ◌∷◌}
 use mathlib.Core.Path.{◌∙◌, ◌≡◌, ap, refl, sym}
 use native.Mathlib.Omega.{arith}
+use Rattle.std.specs.Prelude.{None, Some}
 use lib.ListN.{drop, get_or, length, length-drop, length-set, set}
 use lib.Seq.{drop-cons, sets}
 use Rattle.rooms.specs.Room.{sets_out}
-use Rattle.vectors.specs.Hex.{ReadHex, hex_bytes, hex_no_high, hex_no_low, hex_pair, hex_value}
+use Rattle.vectors.specs.Hex.{ByteOf, ReadHex, hex_bytes}
 
 pub record Reading (line before out : List ℕ) (n : ℕ) : Type 0 where
   pub same : length out ≡ length before
@@ -50,24 +51,19 @@ module _ {line before out : List ℕ} {n : ℕ} (w : Reading line before out n) 
   pub reading_short : length line < 2 * n + 2 → ReadHex line before out n
   reading_short h = reading_ends (none_short (drop (2 * n) line) (simp length-drop (omega arith)))
 
-  module _ (some : 2 * n + 2 ≤ length line) (high low : ℕ) (is_high : high ≡ hex_value (get_or line (2 * n) 0))
-      (is_low : low ≡ hex_value (get_or line (2 * n + 1) 0)) where
+  module _ (some : 2 * n + 2 ≤ length line) where
     two : hex_bytes (drop (2 * n) line) ≡ hex_bytes (get_or line (2 * n) 0 ∷ (get_or line (2 * n + 1) 0 ∷ drop (2 * n + 2) line))
     two = ap hex_bytes (two_more line (2 * n) some)
 
-    pub reading_high : 15 < high → ReadHex line before out n
-    reading_high h = reading_ends (two ∙ hex_no_high _ _ _ (omega arith))
+    pub reading_none : ByteOf (get_or line (2 * n) 0) (get_or line (2 * n + 1) 0) None → ReadHex line before out n
+    reading_none h = reading_ends (two ∙ h (drop (2 * n + 2) line))
 
-    pub reading_low : high ≤ 15 → 15 < low → ReadHex line before out n
-    reading_low h g = reading_ends (two ∙ hex_no_low _ _ _ (omega arith) (omega arith))
-
-    pub reading_more : high ≤ 15 → low ≤ 15 → n < length out → Reading line before (set out n (high * 16 + low)) (n + 1)
-    reading_more h g k =
+    pub reading_more : (b : ℕ) → ByteOf (get_or line (2 * n) 0) (get_or line (2 * n + 1) 0) (Some b) → n < length out → Reading line before (set out n b) (n + 1)
+    reading_more b h k =
         let e : 2 * n + 2 ≡ 2 * (n + 1) = omega arith in
-        let d : hex_bytes (drop (2 * n) line) ≡ (high * 16 + low) ∷ hex_bytes (drop (2 * (n + 1)) line) =
-        two ∙ rw (is_high, is_low, ← e) (hex_pair _ _ _ (omega arith) (omega arith)) in
+        let d : hex_bytes (drop (2 * n) line) ≡ b ∷ hex_bytes (drop (2 * (n + 1)) line) = two ∙ rw (← e) (h (drop (2 * n + 2) line)) in
         let s : n + 1 ≡ suc n = omega arith in
         let f = ap length d in
         let i = w.count in
         let j = w.same in
-        record { same = length-set out n (high * 16 + low) ∙ w.same; within = omega arith; stored = w.stored ∙ rw (d, s); count = omega arith }
+        record { same = length-set out n b ∙ w.same; within = omega arith; stored = w.stored ∙ rw (d, s); count = omega arith }

@@ -1,5 +1,5 @@
 -- Bytes in hexadecimal.
-use Rattle.std.specs.Prelude.{◌*◌, ◌+◌, ◌-◌, ◌<◌, ◌≤◌, min, ℕ, ◌&&◌, List, [], ◌∷◌, ◌≡◌, leb, ltb, drop, length, take}
+use Rattle.std.specs.Prelude.{◌*◌, ◌+◌, ◌-◌, ◌<◌, ◌≤◌, min, ℕ, ◌&&◌, None, Option, Some, List, [], ◌∷◌, ◌≡◌, leb, ltb, drop, length, take}
 use Rattle.std.proofs.Common.{◌∙◌, ap, sym, arith, take-append-drop, length-take-le, take_all, take-take, le-ltb, lt-ltb, ltb-false, ltb-true}
 use Rattle.std.proofs.lemmas.List.Edits.{sets, sets-eq}
 use Rattle.std.proofs.lemmas.List.{take-append-le}
@@ -16,6 +16,16 @@ unfoldable pub hex_bytes : List ℕ → List ℕ
 hex_bytes [] = []
 hex_bytes (a ∷ []) = []
 hex_bytes (a ∷ b ∷ l) = pick (ltb (hex_value a) 16 && ltb (hex_value b) 16) ((hex_value a * 16 + hex_value b) ∷ hex_bytes l) []
+
+-- as the code has them: no value where there is no digit
+abbrev pub DigitOf : ℕ → Option ℕ → Type 0
+DigitOf b None = hex_value b ≡ 16
+DigitOf b (Some d) = (hex_value b ≡ d) × (d < 16)
+
+-- the value of two digits
+abbrev pub ByteOf : ℕ → ℕ → Option ℕ → Type 0
+ByteOf a b None = (l : List ℕ) → hex_bytes (a ∷ b ∷ l) ≡ []
+ByteOf a b (Some n) = (l : List ℕ) → hex_bytes (a ∷ b ∷ l) ≡ n ∷ hex_bytes l
 
 -- the bytes that a line begins with were stored, as far as there is room, and r of them were
 pub record ReadHex (line before after : List ℕ) (r : ℕ) : Type 0 where

@@ -5,7 +5,7 @@ mod write;
 
 ghost use Rattle.std.specs.Prelude.{◌≡◌, ◌*◌, ◌+◌, ◌<◌, ◌^◌, ◌≤◌, min, IfOk, drop, length};
 ghost use Rattle.yaml_lexeme.specs.Record.{record_words};
-ghost use Rattle.vectors.specs.Hex.{ReadHex, hex_value};
+ghost use Rattle.vectors.specs.Hex.{ByteOf, DigitOf, ReadHex};
 ghost use Rattle.vectors.specs.Line.{line_length};
 
 use records::RECORD_WORDS;
@@ -17,14 +17,8 @@ pub use write::{behind, put_accepted, put_head, put_hex, put_refused};
 pub fn line_end(s: &[u8], at: usize) -> usize
     ensures { result ≡ at + line_length (drop at s.now) }
 {
-    let mut i = at;
-    while i < s.len() {
-        if s[i] == 10 {
-            return i;
-        }
-        i += 1;
-    }
-    i
+    let line = s.iter().skip(at).take_while(|b| **b != b'\n');
+    at + line.count()
 }
 
 // Reads standard input into a room, until it is full or the input ends; how many bytes were read.
@@ -43,38 +37,38 @@ pub fn read_input(rt: &HostRuntime, room: &mut [u8]) -> io::Result<usize>
     Ok(n)
 }
 
-// The value of a hexadecimal digit; 16 for any other byte.
-fn digit(b: u8) -> u8
-    ensures { result ≡ hex_value b }
+// The value of a hexadecimal digit.
+fn digit(b: u8) -> Option<u8>
+    ensures { DigitOf b result }
 {
     match b {
-        48..=57 => b - 48,
-        97..=102 => b - 87,
-        _ => 16,
+        b'0'..=b'9' => Some(b - b'0'),
+        b'a'..=b'f' => Some(b - b'a' + 10),
+        _ => None,
     }
+}
+
+// The byte that two digits stand for.
+fn byte_of(high: u8, low: u8) -> Option<u8>
+    ensures { ByteOf high low result }
+{
+    Some(digit(high)? * 16 + digit(low)?)
 }
 
 // Stores the bytes that the digits at the start of a line stand for, as far as there is room; how many are stored.
 pub fn read_hex(line: &[u8], out: &mut [u8]) -> usize
     ensures { ReadHex line.now out.old out.new result }
 {
-    let mut n = 0;
-    while n < out.len() {
+    for n in 0..out.len() {
         if line.len() < 2 * n + 2 {
             return n;
         }
-        let high = digit(line[2 * n]);
-        let low = digit(line[2 * n + 1]);
-        if 15 < high {
+        let Some(b) = byte_of(line[2 * n], line[2 * n + 1]) else {
             return n;
-        }
-        if 15 < low {
-            return n;
-        }
-        out[n] = high * 16 + low;
-        n += 1;
+        };
+        out[n] = b;
     }
-    n
+    out.len()
 }
 
 // The words that demand 3 asks for a text of n bytes, or as many as there are.
@@ -82,6 +76,5 @@ pub fn enough_words(n: usize, most: usize) -> usize
     requires { n < 2 ^ 32 }
     ensures { result ≡ min ((2 * n + 3) * record_words) most }
 {
-    let words = (2 * n + 3) * RECORD_WORDS;
-    if words < most { words } else { most }
+    most.min((2 * n + 3) * RECORD_WORDS)
 }

@@ -6,6 +6,7 @@ ghost use Rattle.printing.specs.Listing.{mark_numbers};
 ghost use Rattle.printing.specs.Written.{Written};
 ghost use Rattle.vectors.specs.Vector.{accepted_text, head_text, hex_text, refused_text, row_end, rows_text};
 
+use chars::pick::pick;
 use printing::put_numbers;
 use records::RECORD_WORDS;
 use rooms::{copy, put};
@@ -16,7 +17,7 @@ fn figure(n: u8) -> u8
     requires { n < 16 }
     ensures { result ≡ hex_digit_ascii n }
 {
-    if n < 10 { 48 + n } else { 87 + n }
+    if n < 10 { b'0' + n } else { b'a' + n - 10 }
 }
 
 // Two digits for each byte, from `at` on; where the next goes.
@@ -26,12 +27,10 @@ pub fn put_hex(out: &mut [u8], at: usize, bytes: &[u8]) -> usize
     ensures value { result ≡ at + 2 * length bytes.now }
 {
     let mut next = at;
-    let mut i = 0;
-    while i < bytes.len() {
-        put(out, next, figure(bytes[i] / 16));
-        put(out, next + 1, figure(bytes[i] % 16));
+    for b in bytes {
+        put(out, next, figure(*b / 16));
+        put(out, next + 1, figure(*b % 16));
         next += 2;
-        i += 1;
     }
     next
 }
@@ -59,7 +58,7 @@ pub fn put_head(out: &mut [u8], text: &[u8]) -> usize
 pub fn behind(left: u32) -> u8
     ensures { result ≡ row_end left }
 {
-    if left == 0 { 124 } else { 59 }
+    pick(left == 0, b'|', b';')
 }
 
 // The words of t records, from `at` on; where the next goes.
@@ -69,18 +68,10 @@ fn put_rows(out: &mut [u8], at: usize, words: &[u32], t: u32) -> usize
     ensures upper_bound { result ≤ at + 132 * t }
 {
     let mut next = at;
-    let mut n: u32 = 0;
-    while n < t {
+    for n in 0..t {
         let from = n as usize * RECORD_WORDS;
-        let left = t - n - 1;
-        next = put_numbers(
-            out,
-            next,
-            &words[from..from + RECORD_WORDS],
-            32,
-            behind(left),
-        );
-        n += 1;
+        let record = &words[from..from + RECORD_WORDS];
+        next = put_numbers(out, next, record, b' ', behind(t - n - 1));
     }
     next
 }
@@ -92,10 +83,9 @@ pub fn put_accepted(out: &mut [u8], at: usize, t: u32, d: u32, words: &[u32], by
     ensures upper_bound { result ≤ at + 25 + 132 * t + 2 * d }
 {
     let a = put_text(out, at, b"A ");
-    let b = put_numbers(out, a, &[t, d], 32, 124);
+    let b = put_numbers(out, a, &[t, d], b' ', b'|');
     let c = put_rows(out, b, words, t);
-    let n = d as usize;
-    let e = put_hex(out, c, &bytes[0..n]);
+    let e = put_hex(out, c, &bytes[..d as usize]);
     put_text(out, e, b"\n")
 }
 
@@ -107,5 +97,5 @@ pub fn put_refused(out: &mut [u8], at: usize, f: Refusal) -> usize
 {
     let m = f.mark;
     let n = put_text(out, at, b"R ");
-    put_numbers(out, n, &[f.number, m.index, m.line, m.col], 32, 10)
+    put_numbers(out, n, &[f.number, m.index, m.line, m.col], b' ', b'\n')
 }

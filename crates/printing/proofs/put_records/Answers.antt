@@ -6,7 +6,7 @@ use Rattle.printing.proofs.Rows.{rows_end, rows_more, rows_start, ten}
 use Rattle.printing.proofs.put_records.Goals as goal
 
 pub loop-n-init : goal.loop-n-init
-loop-n-init c = let a = c.args in (omega arith, omega arith, rw (rows_start a.t a.words.now) writing_starts)
+loop-n-init c = let a = c.args in (omega arith, rw (rows_start a.t a.words.now) writing_starts)
 
 pub slice_bounds-put_numbers-end : goal.slice_bounds-put_numbers-end
 slice_bounds-put_numbers-end c = sym (ten _ _ c.listed_words-numbers.ensures)
@@ -22,16 +22,13 @@ loop-n-preserved c =
     let e = ten _ _ c.listed_words-numbers.ensures in
     let w = p.ensures.written in
     let m = rows_more a.t l.n a.words.now c.loop-n-test.true in
-    (omega arith, omega arith, writing_more l.invariant.2 (rw c.listed_words-numbers.ensures m) w)
-
-pub shape_of-out : goal.shape_of-out
-shape_of-out c = c.loop-n.invariant.2.same
+    (omega arith, writing_more l.invariant.1 (rw c.listed_words-numbers.ensures m) w)
 
 pub returns : goal.returns
 returns c =
     let l = c.loop-n in
     let a = c.args in
     record {
-      written = writing_ends (rw (rows_end a.t l.n a.words.now c.loop-n-test.false) at l.invariant.2);
+      written = writing_ends (rw (rows_end a.t l.n a.words.now c.loop-n-test.false) at l.invariant.1);
       upper_bound = omega arith;
     }

@@ -8,8 +8,5 @@ use Rattle.printing.proofs.put_records.Given as goal
 
 abbrev pub invariant-loop-n : goal.invariant-loop-n
 invariant-loop-n l =
-    (l.n ≤ l.t) × (l.next ≤ l.at + 110 * l.n) ×
+    (l.next ≤ l.at + 110 * l.n) ×
     Writing l.initial.out l.at (lines_text (token_lines l.t l.words)) l.out l.next (lines_text (token_lines (l.t - l.n) (drop (l.n * record_words) l.words)))
-
-abbrev pub decreases-loop-n : goal.decreases-loop-n
-decreases-loop-n l = l.t - l.n

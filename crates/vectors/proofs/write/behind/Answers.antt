@@ -1,12 +1,7 @@
--- Either way of the test is what the definition picks.
-use borrow.Author.Tests.{eq-eqb, ne_eqb}
+-- What `pick` picks is what the definition picks.
 use Rattle.vectors.specs.Vector.{row_end}
 use Rattle.vectors.proofs.write.behind.Goals as goal
 
-pub returns-then-left-eq0 : goal.returns-then-left-eq0
+pub returns : goal.returns
 unfolding row_end
-returns-then-left-eq0 c = simp (eq-eqb _ _ c.if-left-eq0.true)
-
-pub returns-else-left-eq0 : goal.returns-else-left-eq0
-unfolding row_end
-returns-else-left-eq0 c = simp (ne_eqb _ _ c.if-left-eq0.false)
+returns c = c.pick.ensures

@@ -9,7 +9,7 @@ use Rattle.vectors.proofs.Lines.{row_few, rows_end, rows_more, rows_start}
 use Rattle.vectors.proofs.write.put_rows.Goals as goal
 
 pub loop-n-init : goal.loop-n-init
-loop-n-init c = let a = c.args in (omega arith, omega arith, rw (rows_start a.t a.words.now) writing_starts)
+loop-n-init c = let a = c.args in (omega arith, rw (rows_start a.t a.words.now) writing_starts)
 
 pub loop-n-preserved : goal.loop-n-preserved
 loop-n-preserved c =
@@ -19,16 +19,13 @@ loop-n-preserved c =
     let m = rows_more a.t l.n _ a.words.now c.loop-n-test.true c.behind.ensures in
     let e : l.n * record_words + record_words - l.n * record_words ≡ record_words = omega arith in
     let q = rw e at p in
-    (omega arith, omega (arith, q.upper_bound, row_few (drop (l.n * record_words) a.words.now)), writing_more l.invariant.2 m q.written)
-
-pub shape_of-out : goal.shape_of-out
-shape_of-out c = c.loop-n.invariant.2.same
+    (omega (arith, q.upper_bound, row_few (drop (l.n * record_words) a.words.now)), writing_more l.invariant.1 m q.written)
 
 pub returns : goal.returns
 returns c =
     let l = c.loop-n in
     let a = c.args in
     record {
-      written = writing_ends (rw (rows_end a.t l.n a.words.now c.loop-n-test.false) at l.invariant.2);
+      written = writing_ends (rw (rows_end a.t l.n a.words.now c.loop-n-test.false) at l.invariant.1);
       upper_bound = omega arith;
     }

@@ -6,7 +6,4 @@ use Rattle.vectors.specs.Vector.{rows_text}
 use Rattle.vectors.proofs.write.put_rows.Given as goal
 
 abbrev pub invariant-loop-n : goal.invariant-loop-n
-invariant-loop-n l = (l.n ≤ l.t) × (l.next ≤ l.at + 132 * l.n) × Writing l.initial.out l.at (rows_text l.t l.words) l.out l.next (rows_text (l.t - l.n) (drop (l.n * record_words) l.words))
-
-abbrev pub decreases-loop-n : goal.decreases-loop-n
-decreases-loop-n l = l.t - l.n
+invariant-loop-n l = (l.next ≤ l.at + 132 * l.n) × Writing l.initial.out l.at (rows_text l.t l.words) l.out l.next (rows_text (l.t - l.n) (drop (l.n * record_words) l.words))
