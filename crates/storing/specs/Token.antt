@@ -1,5 +1,5 @@
 -- The second half of a step: what was fetched is what the definition says, and the counts and lent bytes behind it are those of its events.
-use Rattle.std.specs.Prelude.{◌+◌, ◌-◌, ◌≤◌, ℕ, List, ◌++◌, map, ◌≡◌, refl, length}
+use Rattle.std.specs.Prelude.{◌+◌, ◌-◌, ◌≤◌, ℕ, List, ◌++◌, map, ◌≡◌, refl, length, Result, Ok, Err}
 use Rattle.std.proofs.Common.{◌∙◌, ap, arith}
 use Rattle.std.proofs.lemmas.List.Edits.{sets}
 use Rattle.yaml_text.specs.declared.Mark.{Mark}
@@ -17,7 +17,7 @@ use Rattle.events.specs.Event as event
 use Rattle.events.specs.Laid.{texts_ends}
 use Rattle.states.specs.declared.State.{State}
 use Rattle.states.specs.declared.Fetched.{Fetched}
-use Rattle.states.specs.declared.Fetched.TheVariants.{Ends, Goes, Refused}
+use Rattle.states.specs.declared.Fetched.TheVariants.{Ends, Goes}
 use Rattle.states.specs.Answer.{lent_kept, ready}
 use Rattle.states.specs.Fetch.{FetchesText, bytes_left, fetched_seen}
 use Rattle.states.specs.State.{key_mark, state_of}
@@ -50,11 +50,11 @@ seen_refused used (got (ends_with es)) e = let z : ◌≡◌ {A = ℕ} 0 1 = cc 
 seen_refused used (refused n m) e = cc
 
 -- the event that was fetched
-pub data FetchedEvent : Fetched → Event → Type 0 where
-  at_end : {v : Event} → FetchedEvent (Ends v) v
-  going : {t : State} {v : Event} → FetchedEvent (Goes v t) v
+pub data FetchedEvent : Result Fetched Refusal → Event → Type 0 where
+  at_end : {v : Event} → FetchedEvent (Ok (Ends v)) v
+  going : {t : State} {v : Event} → FetchedEvent (Ok (Goes v t)) v
 
-pub fetched_as : {r x : Fetched} {v u : Event} → r ≡ x → v ≡ u → FetchedEvent x u → FetchedEvent r v
+pub fetched_as : {r x : Result Fetched Refusal} {v u : Event} → r ≡ x → v ≡ u → FetchedEvent x u → FetchedEvent r v
 fetched_as p q h = rw (p, q) h
 
 -- behind the ends of blocks
@@ -112,11 +112,11 @@ module _ {limits : Limits} {text a : List ℕ} {s : State} {n : Counts} (h : Ste
   counted {d = d} {v = v} x c = rw (c, x.events) (token_counted n here candidate ended v (events_of d) x.laid)
 
   module _ {e w b z b' : List ℕ} {d : Read News} where
-    pub token_refused : {f : Refusal} → FetchesText limits text a e w b z b' k s d (Refused f) → StepRefused (news d) z b' f
+    pub token_refused : {f : Refusal} → FetchesText limits text a e w b z b' k s d (Err f) → StepRefused (news d) z b' f
     unfolding ◌>>=◌ fetched_seen bytes_left
     token_refused v = let i = seen_refused n.used d v.fetches.same in record { same = rw i; bytes = v.bytes ∙ rw i }
 
-    goes_says : {t : State} {v : Event} → FetchesText limits text a e w b z b' k s d (Goes v t)
+    goes_says : {t : State} {v : Event} → FetchesText limits text a e w b z b' k s d (Ok (Goes v t))
         → Says b b' d v × (news d ≡ got (goes_on (events_of (news d)) (state_of text e (counted_of k v).count t)))
     unfolding fetched_seen
     goes_says g =
@@ -124,14 +124,14 @@ module _ {limits : Limits} {text a : List ℕ} {s : State} {n : Counts} (h : Ste
         let j = behind_goes ended here i.0 in
         (says i.1 j.1 (g.bytes ∙ left_goes n.used b z i.0), j.0)
 
-    ends_says : {v : Event} → FetchesText limits text a e w b z b' k s d (Ends v) → Says b b' d v × (news d ≡ got (ends_with (events_of (news d))))
+    ends_says : {v : Event} → FetchesText limits text a e w b z b' k s d (Ok (Ends v)) → Says b b' d v × (news d ≡ got (ends_with (events_of (news d))))
     unfolding fetched_seen
     ends_says g =
         let i = seen_ends n.used d g.fetches.same in
         let j = behind_last ended here i.0 in
         (says i.1 j.1 (g.bytes ∙ left_last n.used b z i.0), j.0)
 
-    pub token_goes : {r : Fetched} {v : Event} {t : State} {m : Counts} → FetchesText limits text a e w b z b' k s d r → r ≡ Goes v t → length e ≡ length a → m ≡ counted_of k v
+    pub token_goes : {r : Result Fetched Refusal} {v : Event} {t : State} {m : Counts} → FetchesText limits text a e w b z b' k s d r → r ≡ Ok (Goes v t) → length e ≡ length a → m ≡ counted_of k v
         → StepGoes limits text e (news d) n m b b' t
     token_goes {v = v} g q kept c =
         let f = rw q at g in
@@ -148,7 +148,7 @@ module _ {limits : Limits} {text a : List ℕ} {s : State} {n : Counts} (h : Ste
           };
         }
 
-    pub token_ends : {r : Fetched} {v : Event} {m : Counts} → FetchesText limits text a e w b z b' k s d r → r ≡ Ends v → m ≡ counted_of k v → StepEnds (news d) n m b b'
+    pub token_ends : {r : Result Fetched Refusal} {v : Event} {m : Counts} → FetchesText limits text a e w b z b' k s d r → r ≡ Ok (Ends v) → m ≡ counted_of k v → StepEnds (news d) n m b b'
     token_ends {v = v} g q c =
         let f = rw q at g in
         let x = ends_says f in
@@ -162,7 +162,7 @@ module _ {limits : Limits} {text a : List ℕ} {s : State} {n : Counts} (h : Ste
         }
 
     -- no count wraps
-    pub token_countable : {r : Fetched} {v : Event} → FetchesText limits text a e w b z b' k s d r → FetchedEvent r v → Countable k v
+    pub token_countable : {r : Result Fetched Refusal} {v : Event} → FetchesText limits text a e w b z b' k s d r → FetchedEvent r v → Countable k v
     token_countable {v = v} g at_end =
         let after = g.fetches.after in
         within_countable {to = s.place.at + 1} v h.few few after.0 (omega (arith, after.1)) (omega (arith, h.short, h.ready.stands.within))
@@ -170,12 +170,12 @@ module _ {limits : Limits} {text a : List ℕ} {s : State} {n : Counts} (h : Ste
         let after = g.fetches.after in
         within_countable v h.few few after.closed after.size (omega (arith, h.short, after.sane.stands.within))
 
-    fetched_says : {r : Fetched} {v : Event} → FetchesText limits text a e w b z b' k s d r → FetchedEvent r v → Says b b' d v
+    fetched_says : {r : Result Fetched Refusal} {v : Event} → FetchesText limits text a e w b z b' k s d r → FetchedEvent r v → Says b b' d v
     fetched_says g at_end = (ends_says g).0
     fetched_says g going = (goes_says g).0
 
     -- stored from the slot of the first token on, in the words l, where slot 0 is that of token base
-    pub token_words : {r : Fetched} {v : Event} (base : ℕ) (l : List ℕ) {l' : List ℕ} → FetchesText limits text a e w b z b' k s d r → FetchedEvent r v
+    pub token_words : {r : Result Fetched Refusal} {v : Event} (base : ℕ) (l : List ℕ) {l' : List ℕ} → FetchesText limits text a e w b z b' k s d r → FetchedEvent r v
         → l' ≡ put_news l (n.count - base) here ended (shifted base v) → l' ≡ store_events l (n.count - base) n.used (map (counted_from base) (events_of (news d)))
     token_words {v = v} base l g f q =
         let x = fetched_says g f in
