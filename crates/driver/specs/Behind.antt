@@ -1,11 +1,11 @@
--- What the code's answer behind a step says, where w was pending before it.
+-- What the code's answer behind a step says.
+use Rattle.std.specs.Prelude.{Result, Ok, Err}
+use Rattle.yaml_text.specs.declared.Refusal.{Refusal}
 use Rattle.driver.specs.declared.Behind.{Behind}
 use Rattle.driver.specs.declared.Behind.TheVariants as behind
-use Rattle.stream_laws.specs.declared.Pending.{Pending}
 use Rattle.stream_laws.specs.Driven.{Halt, go_on, pause, refuse}
 
-abbrev pub halt_of : Pending → Behind → Halt
-halt_of w behind.On = go_on w
-halt_of w (behind.More v) = go_on v
-halt_of w (behind.Ready v) = pause v
-halt_of w (behind.Refused f) = refuse f.number f.mark
+abbrev pub halt_of : Result Behind Refusal → Halt
+halt_of (Ok (behind.On v)) = go_on v
+halt_of (Ok (behind.Ready v)) = pause v
+halt_of (Err f) = refuse f.number f.mark

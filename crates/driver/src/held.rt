@@ -1,18 +1,17 @@
 // What is held between two calls, as words: the stacks, then what waits, the counts, and the state of the scan.
 ghost use Rattle.std.specs.Prelude.{◌≡◌, ◌^◌, ◌<◌, ◌≤◌, length};
-ghost use Rattle.driver.specs.Held.{Modest, counts_held, held_words, place_held, put_counts, put_state, state_held};
+ghost use Rattle.driver.specs.Held.{Modest, counts_held, place_held, put_counts, put_state, state_held};
 
 use chars::mark::Place;
 use events::Counts;
 use rooms::as_word;
 use stacks::indent::Indents;
-use stacks::{STACK_WORDS, at_most};
+use stacks::STACK_WORDS;
 use states::State;
 use yaml_scan::Limits;
 use yaml_text::Mark;
 
-// The stacks are the words before this.
-pub const STACKS: usize = STACK_WORDS;
+// The stacks are the words before these.
 // 0: fresh; 1: scanning; 2: StreamEnd was scanned; any other: refused.
 pub const PHASE: usize = STACK_WORDS;
 // The number of the token in slot 0.
@@ -35,33 +34,33 @@ pub const NUMBER: usize = STACK_WORDS + 17;
 pub const HELD_WORDS: usize = 1_809;
 
 // The place in the text.
-fn load_place(held: &[u32], text: &[u8]) -> Place
-    requires { (length held.now ≡ held_words) × (length text.now ≤ 1_048_576) }
+fn load_place(held: &[u32; HELD_WORDS], text: &[u8]) -> Place
+    requires { length text.now ≤ 1_048_576 }
     ensures { result ≡ place_held text.now held.now }
 {
     let len = as_word(text.len());
-    let at = at_most(len, held[STATE]);
-    let index = at_most(1_048_576 + at - len, held[MARK]);
-    let m = Mark {
-        index: index,
-        line: at_most(index + 1, held[MARK + 1]),
-        col: at_most(index, held[MARK + 2]),
+    let at = held[STATE].min(len);
+    let index = held[MARK].min(1_048_576 + at - len);
+    let mark = Mark {
+        index,
+        line: held[MARK + 1].min(index + 1),
+        col: held[MARK + 2].min(index),
     };
     Place {
         at: at as usize,
-        mark: m,
+        mark,
     }
 }
 
-pub fn load_state(limits: Limits, held: &[u32], text: &[u8]) -> State
-    requires { Modest limits × (length held.now ≡ held_words) × (length text.now ≤ 1_048_576) }
+pub fn load_state(limits: Limits, held: &[u32; HELD_WORDS], text: &[u8]) -> State
+    requires { Modest limits × (length text.now ≤ 1_048_576) }
     ensures { result ≡ state_held limits text.now held.now }
 {
     let p = load_place(held, text);
     let flags = held[STATE + 4];
-    let depth = at_most(as_word(limits.entries), held[STATE + 7]);
+    let depth = held[STATE + 7].min(as_word(limits.entries));
     let i = Indents {
-        indent: at_most(1_048_577 + depth, held[STATE + 6]),
+        indent: held[STATE + 6].min(1_048_577 + depth),
         depth: depth as usize,
     };
     State {
@@ -70,25 +69,25 @@ pub fn load_state(limits: Limits, held: &[u32], text: &[u8]) -> State
         adjacent_value_allowed_at: held[STATE + 5],
         indents: i,
         place: p,
-        flow_level: at_most(as_word(limits.levels), held[STATE + 8]) as usize,
+        flow_level: held[STATE + 8].min(as_word(limits.levels)) as usize,
     }
 }
 
 // The counts that a text may come to up to the place.
-pub fn load_counts(held: &[u32], text: &[u8]) -> Counts
-    requires { (length held.now ≡ held_words) × (length text.now ≤ 1_048_576) }
+pub fn load_counts(held: &[u32; HELD_WORDS], text: &[u8]) -> Counts
+    requires { length text.now ≤ 1_048_576 }
     ensures { result ≡ counts_held text.now held.now }
 {
-    let at = at_most(as_word(text.len()), held[STATE]);
+    let at = held[STATE].min(as_word(text.len()));
     Counts {
-        count: at_most(1 + 512 * at, held[COUNTS]),
-        put_in: at_most(2 * at, held[COUNTS + 1]),
-        used: at_most(3 * at, held[COUNTS + 2]),
+        count: held[COUNTS].min(1 + 512 * at),
+        put_in: held[COUNTS + 1].min(2 * at),
+        used: held[COUNTS + 2].min(3 * at),
     }
 }
 
-pub fn store_state(held: &mut [u32], s: State)
-    requires { (length held.old ≡ held_words) × (s.place.at < 2 ^ 32) × (s.indents.depth < 2 ^ 32) × (s.flow_level < 2 ^ 32) }
+pub fn store_state(held: &mut [u32; HELD_WORDS], s: State)
+    requires { (s.place.at < 2 ^ 32) × (s.indents.depth < 2 ^ 32) × (s.flow_level < 2 ^ 32) }
     ensures { held.new ≡ put_state held.old s }
 {
     let p = s.place;
@@ -105,8 +104,7 @@ pub fn store_state(held: &mut [u32], s: State)
     held[STATE + 8] = as_word(s.flow_level);
 }
 
-pub fn store_counts(held: &mut [u32], n: Counts)
-    requires { length held.old ≡ held_words }
+pub fn store_counts(held: &mut [u32; HELD_WORDS], n: Counts)
     ensures { held.new ≡ put_counts held.old n }
 {
     held[COUNTS] = n.count;

@@ -10,26 +10,25 @@ ghost use Rattle.yaml_stream.specs.Levels.{level_key};
 ghost use Rattle.yaml_stream.specs.Lowest.{names};
 ghost use Rattle.choices.specs.Choice.{AsDefined};
 ghost use Rattle.stacks.specs.Frame.{frame_keys};
-ghost use Rattle.stacks.specs.Stack.{stack_words};
 ghost use Rattle.states.specs.State.{state_of};
 ghost use Rattle.sink.specs.Stored.{counts_ending};
 ghost use Rattle.steps.specs.Step.{is_brief};
 ghost use Rattle.storing.specs.Step.{StepGiven, step_left, token_left};
 ghost use Rattle.driver.specs.Behind.{halt_of};
-ghost use Rattle.stream_laws.specs.declared.Pending.{Pending};
-ghost use Rattle.stream_laws.specs.Driven.{crowded, if_enough, one_by_one, refuse, test_of, then_pending};
-ghost use Rattle.yaml_text.specs.Mark.{origin};
+ghost use Rattle.stream_laws.specs.Driven.{crowded, if_enough, one_by_one, test_of, then_pending};
 ghost use Rattle.driver.specs.Drives.{Drives};
-ghost use Rattle.driver.specs.Held.{Modest, held_words, pending_held, put_counts, put_pending, put_state, put_until};
+ghost use Rattle.driver.specs.Held.{Modest, pending_held, put_counts, put_pending, put_state, put_until};
 ghost use Rattle.driver.specs.Step.{StepDone, token_news};
 
-use crate::held::{BASE, HELD_WORDS, LEVEL, STACKS, UNTIL, load_counts, load_state, store_counts, store_state};
-use choices::advance::{Advanced, to_next_token};
+use crate::held::{BASE, HELD_WORDS, LEVEL, UNTIL, load_counts, load_state, store_counts, store_state};
+use chars::mark::origin;
+use chars::refuse::refuse;
+use choices::advance::to_next_token;
 use choices::choice::choice;
 use events::{Counts, Opening, brief_event};
 use rooms::as_word;
 use sink::{BlockStart, PairEnd, put_brief, put_news};
-use stacks::at_most;
+use stacks::STACK_WORDS;
 use stacks::frame::key;
 use states::{Brief, Fetched, State};
 use steps::{fetch_brief, fetch_other, is_brief};
@@ -46,21 +45,18 @@ pub enum Outcome {
     Ready,
 }
 
-// Behind a step: the state there; the end of the text; or a refusal.
+// Behind a step: the state there; or the end of the text.
 #[derive(Clone, Copy)]
 enum Stepped {
     On { state: State, counts: Counts },
     Ends(Counts),
-    Refused(Refusal),
 }
 
-// Behind a step: on; on, and something else is pending; enough can be given, and this is pending; or a refusal.
+// Behind a step: on, or enough can be given; and what is pending then.
 #[derive(Clone, Copy)]
 enum Behind {
-    On,
-    More(Pending),
+    On(Pending),
     Ready(Pending),
-    Refused(Refusal),
 }
 
 // So many tokens may wait before a step.
@@ -101,23 +97,22 @@ fn brief_token(
     ended: u32,
     n: Counts,
     base: u32,
-    stacks: &mut [u32],
+    stacks: &mut [u32; STACK_WORDS],
     words: &mut [u32],
     bytes: &mut [u8],
-) -> Stepped
+) -> Result<Stepped, Refusal>
     requires { StepGiven limits text.now stacks.old s n × (base ≤ n.count) × (ended ≤ 255) × AsDefined text.now s (λ t. choice t) c × (is_brief c ≡ true) }
     ensures { StepDone limits text.now stacks.new (token_news limits text.now stacks.old s ended n) base n words.old bytes.old (token_left (state_of text.now stacks.old (n.count + ended) s) bytes.old n.used) words.new bytes.new result }
 {
     let k = ending(n, ended);
-    let r = fetch_brief(limits, text, c, s, k, stacks, bytes);
+    let r = fetch_brief(limits, text, c, s, k, stacks, bytes)?;
     match r {
-        Brief::Refused(f) => Stepped::Refused(f),
         Brief::Goes { state, pair, token } => {
             put_brief::<PairEnd>(words, n.count - base, s.place.mark, ended, pair, token);
-            Stepped::On {
+            Ok(Stepped::On {
                 state: state.anew(),
                 counts: k.counting(brief_event(pair, Opening::FlowMappingEnd, token)),
-            }
+            })
         }
         Brief::Enters {
             state,
@@ -125,10 +120,10 @@ fn brief_token(
             token,
         } => {
             put_brief::<BlockStart>(words, n.count - base, s.place.mark, ended, starts, token);
-            Stepped::On {
+            Ok(Stepped::On {
                 state: state.anew(),
                 counts: k.counting(brief_event(starts, Opening::BlockSequenceStart, token)),
-            }
+            })
         }
     }
 }
@@ -142,44 +137,37 @@ fn other_token(
     ended: u32,
     n: Counts,
     base: u32,
-    stacks: &mut [u32],
+    stacks: &mut [u32; STACK_WORDS],
     words: &mut [u32],
     bytes: &mut [u8],
-) -> Stepped
+) -> Result<Stepped, Refusal>
     requires { StepGiven limits text.now stacks.old s n × (base ≤ n.count) × (ended ≤ 255) × AsDefined text.now s (λ t. choice t) c × (is_brief c ≡ false) }
     ensures { StepDone limits text.now stacks.new (token_news limits text.now stacks.old s ended n) base n words.old bytes.old (token_left (state_of text.now stacks.old (n.count + ended) s) bytes.old n.used) words.new bytes.new result }
 {
     let k = ending(n, ended);
-    let r = fetch_other(limits, text, c, s, k, stacks, bytes);
+    let r = fetch_other(limits, text, c, s, k, stacks, bytes)?;
     let e = match r {
-        Fetched::Refused(f) => {
-            return Stepped::Refused(f);
-        }
-        Fetched::Ends(e) => e,
         Fetched::Goes(e, _) => e,
+        Fetched::Ends(e) => e,
     };
     put_news(words, base, n.count - base, s.place.mark, ended, e);
-    let m = k.counting(e);
+    let counts = k.counting(e);
     match r {
-        Fetched::Goes(_, t) => Stepped::On {
-            state: t,
-            counts: m,
-        },
-        _ => Stepped::Ends(m),
+        Fetched::Goes(_, state) => Ok(Stepped::On { state, counts }),
+        Fetched::Ends(_) => Ok(Stepped::Ends(counts)),
     }
 }
 
 // The same answer, put together anew: else the call writes it to the caller's own, and brief tokens go through memory too.
-fn apart(r: Stepped) -> Stepped
+fn apart(r: Result<Stepped, Refusal>) -> Result<Stepped, Refusal>
     ensures { result ≡ r }
 {
-    match r {
-        Stepped::On { state, counts } => Stepped::On {
+    match r? {
+        Stepped::On { state, counts } => Ok(Stepped::On {
             state: state.anew(),
-            counts: counts,
-        },
-        Stepped::Ends(n) => Stepped::Ends(n),
-        Stepped::Refused(f) => Stepped::Refused(f),
+            counts,
+        }),
+        Stepped::Ends(n) => Ok(Stepped::Ends(n)),
     }
 }
 
@@ -191,10 +179,10 @@ fn token(
     ended: u32,
     n: Counts,
     base: u32,
-    stacks: &mut [u32],
+    stacks: &mut [u32; STACK_WORDS],
     words: &mut [u32],
     bytes: &mut [u8],
-) -> Stepped
+) -> Result<Stepped, Refusal>
     requires { StepGiven limits text.now stacks.old s n × (base ≤ n.count) × (ended ≤ 255) }
     ensures { StepDone limits text.now stacks.new (token_news limits text.now stacks.old s ended n) base n words.old bytes.old (token_left (state_of text.now stacks.old (n.count + ended) s) bytes.old n.used) words.new bytes.new result }
 {
@@ -223,71 +211,47 @@ fn one_step(
     s: State,
     n: Counts,
     base: u32,
-    stacks: &mut [u32],
+    stacks: &mut [u32; STACK_WORDS],
     words: &mut [u32],
     bytes: &mut [u8],
-) -> Stepped
+) -> Result<Stepped, Refusal>
     requires { StepGiven limits text.now stacks.old s n × (base ≤ n.count) }
     ensures { StepDone limits text.now stacks.new (step limits (state_of text.now stacks.old n.count s)) base n words.old bytes.old (step_left (state_of text.now stacks.old n.count s) bytes.old n.used) words.new bytes.new result }
 {
-    let a = to_next_token(limits, text, s, stacks);
-    match a {
-        Advanced::Refused(f) => Stepped::Refused(f),
-        Advanced::To { state, ended } => token(
-            limits, text, state, ended, n, base, stacks, words, bytes,
-        ),
-    }
+    let a = to_next_token(limits, text, s, stacks)?;
+    token(
+        limits, text, a.state, a.ended, n, base, stacks, words, bytes,
+    )
 }
 
 // Whether the candidate of a level is the token of that number; a level above the flow level has none.
-fn is_named(stacks: &[u32], flow: usize, level: usize, number: u32) -> bool
-    requires { (level ≤ 255) × (stack_words ≤ length stacks.now) }
+fn is_named(stacks: &[u32; STACK_WORDS], flow: usize, level: usize, number: u32) -> bool
+    requires { level ≤ 255 }
     ensures { result ≡ names number (level_key level (frame_keys stacks.now (suc flow))) }
 {
     if flow < level {
         return false;
     }
-    let k = key(stacks, level);
-    let Candidate::Possible {
-        required: _,
-        token_number,
-        mark: _,
-    } = k
-    else {
-        return false;
-    };
-    number == token_number
-}
-
-// 5: the texts are more than the bytes lent. It has no place in the text.
-fn no_room() -> Behind
-    ensures { (w : Pending) → halt_of w result ≡ refuse 5 origin }
-{
-    let m = Mark {
-        index: 0,
-        line: 1,
-        col: 0,
-    };
-    Behind::Refused(Refusal { number: 5, mark: m })
+    match key(stacks, level) {
+        Candidate::Possible { token_number, .. } => number == token_number,
+        Candidate::Absent => false,
+    }
 }
 
 // 51, where too many wait, or on.
-fn too_many(w: Pending, k: Counts, here: Mark) -> Behind
+fn too_many(w: Pending, k: Counts, here: Mark) -> Result<Behind, Refusal>
     requires { (w.number ≤ k.count) × (w.put_in ≤ k.put_in) × (k.count + k.put_in < 2 ^ 32) }
-    ensures { halt_of w result ≡ crowded w k here }
+    ensures { halt_of result ≡ crowded w k here }
 {
     if MOST_WAITING < k.count - w.number + (k.put_in - w.put_in) {
-        return Behind::Refused(Refusal {
-            number: 51,
-            mark: here,
-        });
+        return refuse(51, here);
     }
-    Behind::On
+    Ok(Behind::On(w))
 }
 
 // What is pending where all tokens but the last can be given, behind a step from that level.
-fn then_pending(stacks: &[u32], level: usize, flow: usize, k: Counts) -> Pending
-    requires { (level ≤ 255) × (stack_words ≤ length stacks.now) × (0 < k.count) }
+fn then_pending(stacks: &[u32; STACK_WORDS], level: usize, flow: usize, k: Counts) -> Pending
+    requires { (level ≤ 255) × (0 < k.count) }
     ensures { result ≡ then_pending level (frame_keys stacks.now (suc flow)) flow k }
 {
     if is_named(stacks, flow, level, k.count - 1) {
@@ -307,10 +271,10 @@ fn then_pending(stacks: &[u32], level: usize, flow: usize, k: Counts) -> Pending
 // Enough can be given, or on.
 fn if_enough(base: u32, w: Pending) -> Behind
     requires { base ≤ w.number }
-    ensures { (v : Pending) → halt_of v result ≡ if_enough base w }
+    ensures { halt_of (Ok result) ≡ if_enough base w }
 {
     if w.number - base < SLOTS_AHEAD {
-        return Behind::More(w);
+        return Behind::On(w);
     }
     Behind::Ready(w)
 }
@@ -323,18 +287,22 @@ fn behind_one(
     level: usize,
     t: State,
     k: Counts,
-    stacks: &[u32],
-) -> Behind
-    requires { (w.level ≤ 255) × (level ≤ 255) × (stack_words ≤ length stacks.now) × (base < k.count) × (w.number ≤ k.count) × (w.put_in ≤ k.put_in) × (k.count + k.put_in < 2 ^ 32) }
-    ensures { halt_of w result ≡ one_by_one room base w level (frame_keys stacks.now (suc t.flow_level)) t.flow_level t.place.mark k }
+    stacks: &[u32; STACK_WORDS],
+) -> Result<Behind, Refusal>
+    requires { (w.level ≤ 255) × (level ≤ 255) × (base < k.count) × (w.number ≤ k.count) × (w.put_in ≤ k.put_in) × (k.count + k.put_in < 2 ^ 32) }
+    ensures { halt_of result ≡ one_by_one room base w level (frame_keys stacks.now (suc t.flow_level)) t.flow_level t.place.mark k }
 {
     if room < k.used as usize {
-        return no_room();
+        // It has no place in the text.
+        return refuse(5, origin());
     }
     if is_named(stacks, t.flow_level, w.level, w.number) {
         return too_many(w, k, t.place.mark);
     }
-    if_enough(base, then_pending(stacks, level, t.flow_level, k))
+    Ok(if_enough(
+        base,
+        then_pending(stacks, level, t.flow_level, k),
+    ))
 }
 
 // Behind a step. In the one call nothing is asked.
@@ -346,28 +314,28 @@ fn behind_step(
     level: usize,
     t: State,
     k: Counts,
-    stacks: &[u32],
-) -> Behind
-    requires { (w.level ≤ 255) × (level ≤ 255) × (stack_words ≤ length stacks.now) × (base < k.count) × (w.number ≤ k.count) × (w.put_in ≤ k.put_in) × (k.count + k.put_in < 2 ^ 32) }
-    ensures { halt_of w result ≡ test_of single room base w level (frame_keys stacks.now (suc t.flow_level)) t.flow_level t.place.mark k }
+    stacks: &[u32; STACK_WORDS],
+) -> Result<Behind, Refusal>
+    requires { (w.level ≤ 255) × (level ≤ 255) × (base < k.count) × (w.number ≤ k.count) × (w.put_in ≤ k.put_in) × (k.count + k.put_in < 2 ^ 32) }
+    ensures { halt_of result ≡ test_of single room base w level (frame_keys stacks.now (suc t.flow_level)) t.flow_level t.place.mark k }
 {
     if single {
         return behind_one(room, base, w, level, t, k, stacks);
     }
-    Behind::On
+    Ok(Behind::On(w))
 }
 
 // Tokens can be given up to the one that is pending.
-fn hold_until(held: &mut [u32], base: u32, w: Pending)
-    requires { (length held.old ≡ held_words) × (base ≤ w.number) }
+fn hold_until(held: &mut [u32; HELD_WORDS], base: u32, w: Pending)
+    requires { base ≤ w.number }
     ensures { held.new ≡ put_until held.old base w }
 {
     held[UNTIL] = w.number - base;
 }
 
 // The state is held, with what is pending.
-fn hold(held: &mut [u32], t: State, k: Counts, base: u32, w: Pending)
-    requires { (length held.old ≡ held_words) × (t.place.at < 2 ^ 32) × (t.indents.depth < 2 ^ 32) × (t.flow_level < 2 ^ 32) × (w.level < 2 ^ 32) × (base ≤ w.number) }
+fn hold(held: &mut [u32; HELD_WORDS], t: State, k: Counts, base: u32, w: Pending)
+    requires { (t.place.at < 2 ^ 32) × (t.indents.depth < 2 ^ 32) × (t.flow_level < 2 ^ 32) × (w.level < 2 ^ 32) × (base ≤ w.number) }
     ensures { held.new ≡ put_pending (put_counts (put_state held.old t) k) base w }
 {
     store_state(held, t);
@@ -377,13 +345,12 @@ fn hold(held: &mut [u32], t: State, k: Counts, base: u32, w: Pending)
 }
 
 // What is pending, as it is held: the token in slot 0.
-fn load_pending(held: &[u32], base: u32, n: Counts) -> Pending
-    requires { length held.now ≡ held_words }
+fn load_pending(held: &[u32; HELD_WORDS], base: u32, n: Counts) -> Pending
     ensures { result ≡ pending_held held.now base n }
 {
     Pending {
         number: base,
-        level: at_most(255, held[LEVEL]) as usize,
+        level: held[LEVEL].min(255) as usize,
         put_in: n.put_in,
     }
 }
@@ -402,38 +369,39 @@ pub fn all_steps(
 {
     let mut t = load_state(limits, held, text);
     let mut k = load_counts(held, text);
-    let base = at_most(k.count, held[BASE]);
+    let base = held[BASE].min(k.count);
     let mut w = load_pending(held, base, k);
     loop {
         let level = t.flow_level;
-        let r = one_step(limits, text, t, k, base, &mut held[0..STACKS], words, bytes);
+        let stacks = held.first_chunk_mut::<STACK_WORDS>().unwrap();
+        let r = one_step(limits, text, t, k, base, stacks, words, bytes);
         match r {
-            Stepped::Refused(f) => {
-                hold_until(held, base, w);
-                return Err(f);
-            }
-            Stepped::Ends(m) => {
-                return Ok(Outcome::Scanned(m));
-            }
-            Stepped::On { state, counts } => {
+            Ok(Stepped::On { state, counts }) => {
                 t = state.anew();
                 k = counts;
             }
-        }
-        let b = behind_step(single, bytes.len(), base, w, level, t, k, &held[0..STACKS]);
-        match b {
-            Behind::Refused(f) => {
+            Ok(Stepped::Ends(m)) => {
+                return Ok(Outcome::Scanned(m));
+            }
+            Err(f) => {
                 hold_until(held, base, w);
                 return Err(f);
             }
-            Behind::Ready(v) => {
+        }
+        let stacks = held.first_chunk::<STACK_WORDS>().unwrap();
+        let b = behind_step(single, bytes.len(), base, w, level, t, k, stacks);
+        match b {
+            Ok(Behind::On(v)) => {
+                w = v;
+            }
+            Ok(Behind::Ready(v)) => {
                 hold(held, t, k, base, v);
                 return Ok(Outcome::Ready);
             }
-            Behind::More(v) => {
-                w = v;
+            Err(f) => {
+                hold_until(held, base, w);
+                return Err(f);
             }
-            Behind::On => {}
         }
     }
 }
