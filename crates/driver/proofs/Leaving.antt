@@ -3,6 +3,7 @@ use Prim.Native.Nat.{◌+◌, ◌-◌, ◌<◌, ◌^◌, ◌≤◌, ℕ}
 use mathlib.Core.Bool.{Bool}
 use mathlib.Core.List.{List, ◌++◌, append-nil}
 use mathlib.Core.Path.{◌∙◌, ◌≡◌, ap, refl, sym}
+use Rattle.std.specs.Prelude.{Ok, Err}
 use native.Mathlib.Omega.{arith}
 use lib.ListN.{drop, length, length-set, set, take, take-append-drop}
 use lib.Seq.{drop-set-add}
@@ -18,8 +19,8 @@ use Rattle.states.specs.declared.State.{State}
 use Rattle.states.specs.State.{state_of}
 use Rattle.sink.specs.Stored.{CountsWithin, Stored, stored_then}
 use Rattle.storing.specs.Step.{events_of, step_left}
-use Rattle.driver.specs.declared.Outcome.TheVariants.{Ready, Scanned, Stopped}
-use Rattle.driver.specs.declared.Stepped.TheVariants.{Ends, Refused}
+use Rattle.driver.specs.declared.Outcome.TheVariants.{Ready, Scanned}
+use Rattle.driver.specs.declared.Stepped.TheVariants.{Ends}
 use Rattle.stream_laws.specs.declared.Pending.{Pending}
 use Rattle.stream_laws.specs.Driven.{Driven, Test, behind_events, driven, go_on, pause, refuse, stops, test_of}
 use Rattle.driver.specs.Drives.{Drives, EndsAs, PausesAs, StopsAs, base_held, drives}
@@ -82,7 +83,7 @@ module _ {limits : Limits} {text : List ℕ} {test : Test} {d : Driven} {base : 
     abbrev x : definition.State
     x = state_of text stacks n.count t
 
-    pub driving_ends : {e z l' b' : List ℕ} {m : Counts} → StepDone limits text e (step limits x) base n l b z l' b' (Ends m) → EndsAs d base n₀ m l₀ b₀ l' b'
+    pub driving_ends : {e z l' b' : List ℕ} {m : Counts} → StepDone limits text e (step limits x) base n l b z l' b' (Ok (Ends m)) → EndsAs d base n₀ m l₀ b₀ l' b'
     unfolding driven
     driving_ends {l' = l'} {b' = b'} {m} q =
         let a = q.answers in
@@ -92,7 +93,7 @@ module _ {limits : Limits} {text : List ℕ} {test : Test} {d : Driven} {base : 
         by_events es same stored few = record { said = g.said ++ es; same = g.whole ∙ rw same; stored = stored_then low g.stored stored; few = few }
 
     pub driving_stops : {e l' b' h₀ h h' : List ℕ} {f : Refusal} → LengthsKept h₀ l₀ b₀ h l' b' → h' ≡ put_until h base w
-        → StepDone limits text e (step limits x) base n l b (step_left x b n.used) l' b' (Refused f) → StopsAs d base n₀ f h₀ l₀ b₀ h' l' b'
+        → StepDone limits text e (step limits x) base n l b (step_left x b n.used) l' b' (Err f) → StopsAs d base n₀ f h₀ l₀ b₀ h' l' b'
     unfolding driven
     driving_stops {l' = l'} {f = f} k held q =
         let a = q.answers in
@@ -110,10 +111,10 @@ module _ {limits : Limits} {text : List ℕ} {test : Test} {d : Driven} {base : 
 
     -- what the test asks for
     pub halting_asks : Fits base n w → level ≤ 255
-        → (w.level ≤ 255) × (level ≤ 255) × (stack_words ≤ length stacks) × (base < n.count) × (w.number ≤ n.count) × (w.put_in ≤ n.put_in) × (n.count + n.put_in < 2 ^ 32)
+        → (w.level ≤ 255) × (level ≤ 255) × (base < n.count) × (w.number ≤ n.count) × (w.put_in ≤ n.put_in) × (n.count + n.put_in < 2 ^ 32)
     halting_asks f h =
         let g = a.given in
-        (f.low, h, g.ready.lent.room, a.more, f.within, f.fewer, omega (arith, g.few, g.short, g.ready.stands))
+        (f.low, h, a.more, f.within, f.fewer, omega (arith, g.few, g.short, g.ready.stands))
 
     -- and what holding the state asks for
     pub halting_fits : (t.place.at < 2 ^ 32) × (t.indents.depth < 2 ^ 32) × (t.flow_level ≤ 255)
@@ -152,11 +153,11 @@ module _ {limits : Limits} {text : List ℕ} {test : Test} {d : Driven} {base : 
 -- the numbers that were loaded are those that were held
 
 module _ {limits : Limits} (one : Bool) {text : List ℕ} (h l b h' l' b' : List ℕ) {s : State} {n : Counts} {base : ℕ} {w : Pending} (k : Loaded limits text h s n base w) where
-  pub drives_scanned : {m : Counts} → LengthsKept h l b h' l' b' → EndsAs (drives limits one text (length b) h) base n m l b l' b' → Drives limits one text h l b h' l' b' (Scanned m)
+  pub drives_scanned : {m : Counts} → LengthsKept h l b h' l' b' → EndsAs (drives limits one text (length b) h) base n m l b l' b' → Drives limits one text h l b h' l' b' (Ok (Scanned m))
   drives_scanned e q = (rw (k.base_is, k.counts_is) at q, e.behind_kept, e.held_kept)
 
-  pub drives_stopped : {f : Refusal} → StopsAs (drives limits one text (length b) h) base n f h l b h' l' b' → Drives limits one text h l b h' l' b' (Stopped f)
+  pub drives_stopped : {f : Refusal} → StopsAs (drives limits one text (length b) h) base n f h l b h' l' b' → Drives limits one text h l b h' l' b' (Err f)
   drives_stopped q = rw (k.base_is, k.counts_is) at q
 
-  pub drives_ready : PausesAs limits text (drives limits one text (length b) h) base n h l b h' l' b' → Drives limits one text h l b h' l' b' Ready
+  pub drives_ready : PausesAs limits text (drives limits one text (length b) h) base n h l b h' l' b' → Drives limits one text h l b h' l' b' (Ok Ready)
   drives_ready q = rw (k.base_is, k.counts_is) at q

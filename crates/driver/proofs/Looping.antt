@@ -3,6 +3,7 @@ use Prim.Native.Nat.{◌+◌, ◌<◌, ◌^◌, ◌≤◌, suc, ℕ}
 use mathlib.Core.Bool.{Bool}
 use mathlib.Core.List.{List, [], ◌++◌}
 use mathlib.Core.Path.{◌∙◌, ◌≡◌, ap, refl}
+use Rattle.std.specs.Prelude.{Ok, Err}
 use native.Mathlib.Omega.{arith}
 use lib.ListN.{drop, length}
 use lib.Seq.{drop_at, length_front, length-take-le, take_at}
@@ -20,8 +21,8 @@ use Rattle.states.specs.declared.State.{State}
 use Rattle.states.specs.State.{state_of}
 use Rattle.sink.specs.Stored.{CountsBehind, stored_none}
 use Rattle.storing.specs.Step.{StepGiven, step_left}
-use Rattle.driver.specs.declared.Outcome.TheVariants.{Ready, Scanned, Stopped}
-use Rattle.driver.specs.declared.Stepped.TheVariants.{Ends, On, Refused}
+use Rattle.driver.specs.declared.Outcome.TheVariants.{Ready, Scanned}
+use Rattle.driver.specs.declared.Stepped.TheVariants.{Ends, On}
 use Rattle.stream_laws.specs.declared.Pending.{Pending}
 use Rattle.stream_laws.specs.Driven.{Halt, go_on, noted, pause, refuse, test_of}
 use Rattle.driver.specs.Drives.{Drives, drives}
@@ -95,7 +96,7 @@ module _ {limits : Limits} {one : Bool} {text h₀ l₀ b₀ : List ℕ} {base :
   looping_gives = (i.driving.given, driving_low limits text (test_at one (length b₀) base) i.low i.driving)
 
   -- what is left of the text falls; v: the state behind the step, put together anew
-  pub looping_less : {e z l' b' : List ℕ} {u v : State} {m : Counts} → v ≡ u → StepDone limits text e (step limits (state_of text (stacks_held h) n.count t)) base n l b z l' b' (On u m)
+  pub looping_less : {e z l' b' : List ℕ} {u v : State} {m : Counts} → v ≡ u → StepDone limits text e (step limits (state_of text (stacks_held h) n.count t)) base n l b z l' b' (Ok (On u m))
       → left (view text v.place) < left (view text t.place)
   looping_less e q = rw e (driving_less limits text (test_at one (length b₀) base) i.low i.driving q)
 
@@ -121,11 +122,11 @@ module _ {limits : Limits} {one : Bool} {text h₀ l₀ b₀ : List ℕ} {base :
       }
 
   -- what holding up to where tokens can be given asks for
-  pub looping_holds : (length after ≡ held_words) × (base ≤ w.number)
-  looping_holds = (after_length ∙ i.long, i.fits.least)
+  pub looping_holds : base ≤ w.number
+  looping_holds = i.fits.least
 
   module _ {l' b' : List ℕ} (p : length l' ≡ length l) (q : length b' ≡ length b) where
-    pub looping_asks : {z : List ℕ} {u v : State} {m : Counts} → v ≡ u → StepDone limits text e (step limits (state_of text (stacks_held h) n.count t)) base n l b z l' b' (On u m)
+    pub looping_asks : {z : List ℕ} {u v : State} {m : Counts} → v ≡ u → StepDone limits text e (step limits (state_of text (stacks_held h) n.count t)) base n l b z l' b' (Ok (On u m))
         → Asking limits one text h₀ l₀ b₀ base s₀ n₀ w₀ t.flow_level after l' b' v m w
     looping_asks anew d =
         let r = i.driving.given.ready in
@@ -140,13 +141,13 @@ module _ {limits : Limits} {one : Bool} {text h₀ l₀ b₀ : List ℕ} {base :
           halting = rw (take_at e (drop stack_words h) stack_words front_long) (driving_on limits text (test_at one (length b₀) base) i.low i.driving d);
         })
 
-    pub looping_ends : {z : List ℕ} {m : Counts} → StepDone limits text e (step limits (state_of text (stacks_held h) n.count t)) base n l b z l' b' (Ends m)
-        → Drives limits one text h₀ l₀ b₀ after l' b' (Scanned m)
+    pub looping_ends : {z : List ℕ} {m : Counts} → StepDone limits text e (step limits (state_of text (stacks_held h) n.count t)) base n l b z l' b' (Ok (Ends m))
+        → Drives limits one text h₀ l₀ b₀ after l' b' (Ok (Scanned m))
     looping_ends d = drives_scanned one h₀ l₀ b₀ after l' b' i.loaded (kept_on p q) (driving_ends i.low i.driving d)
 
     pub looping_stops : {h' : List ℕ} {f : Refusal} → h' ≡ put_until after base w
-        → StepDone limits text e (step limits (state_of text (stacks_held h) n.count t)) base n l b (step_left (state_of text (stacks_held h) n.count t) b n.used) l' b' (Refused f)
-        → Drives limits one text h₀ l₀ b₀ h' l' b' (Stopped f)
+        → StepDone limits text e (step limits (state_of text (stacks_held h) n.count t)) base n l b (step_left (state_of text (stacks_held h) n.count t) b n.used) l' b' (Err f)
+        → Drives limits one text h₀ l₀ b₀ h' l' b' (Err f)
     looping_stops {h'} held d = drives_stopped one h₀ l₀ b₀ h' l' b' i.loaded (driving_stops i.low i.driving (kept_on p q) held d)
 
 module _ {limits : Limits} {one : Bool} {text h₀ l₀ b₀ : List ℕ} {base : ℕ} {s₀ : State} {n₀ : Counts} {w₀ : Pending} {level : ℕ} {h l b : List ℕ} {t : State} {n : Counts} {w : Pending}
@@ -168,28 +169,28 @@ module _ {limits : Limits} {one : Bool} {text h₀ l₀ b₀ : List ℕ} {base :
   pub asking_room : stack_words ≤ length h
   asking_room = omega (arith, a.long)
 
-  pub asking_asks : (w.level ≤ 255) × (level ≤ 255) × (stack_words ≤ length (stacks_held h)) × (base < n.count) × (w.number ≤ n.count) × (w.put_in ≤ n.put_in) × (n.count + n.put_in < 2 ^ 32)
+  pub asking_asks : (w.level ≤ 255) × (level ≤ 255) × (base < n.count) × (w.number ≤ n.count) × (w.put_in ≤ n.put_in) × (n.count + n.put_in < 2 ^ 32)
   asking_asks = halting_asks a.low a.halting a.fits a.level_low
 
   -- and holding where it ends
-  pub asking_until : (length h ≡ held_words) × (base ≤ w.number)
-  asking_until = (a.long, a.fits.least)
+  pub asking_until : base ≤ w.number
+  asking_until = a.fits.least
 
   pub asking_holds : {v : Pending} → pause v ≡ says
-      → (length h ≡ held_words) × (t.place.at < 2 ^ 32) × (t.indents.depth < 2 ^ 32) × (t.flow_level < 2 ^ 32) × (v.level < 2 ^ 32) × (base ≤ v.number)
+      → (t.place.at < 2 ^ 32) × (t.indents.depth < 2 ^ 32) × (t.flow_level < 2 ^ 32) × (v.level < 2 ^ 32) × (base ≤ v.number)
   asking_holds q =
       let f = halting_fits a.low a.halting in
       let g = says_fits q in
-      (a.long, f.0, f.1, omega (arith, f.2), omega (arith, g.low), g.least)
+      (f.0, f.1, omega (arith, f.2), omega (arith, g.low), g.least)
 
   pub asking_on : {v : Pending} → go_on v ≡ says → Looping limits one text h₀ l₀ b₀ base s₀ n₀ w₀ h l b t n v
   asking_on q =
       record { kept = a.kept; long = a.long; loaded = a.loaded; low = a.low; fits = says_fits q; driving = halting_on a.low a.halting (as_seen q) }
 
-  pub asking_stops : {h' : List ℕ} {f : Refusal} → h' ≡ put_until h base w → refuse f.number f.mark ≡ says → Drives limits one text h₀ l₀ b₀ h' l b (Stopped f)
+  pub asking_stops : {h' : List ℕ} {f : Refusal} → h' ≡ put_until h base w → refuse f.number f.mark ≡ says → Drives limits one text h₀ l₀ b₀ h' l b (Err f)
   asking_stops {h'} held q = drives_stopped one h₀ l₀ b₀ h' l b a.loaded (halting_stops a.low a.halting a.kept held (as_seen q))
 
-  pub asking_pauses : {h' : List ℕ} {v : Pending} → h' ≡ put_pending (put_counts (put_state h t) n) base v → pause v ≡ says → Drives limits one text h₀ l₀ b₀ h' l b Ready
+  pub asking_pauses : {h' : List ℕ} {v : Pending} → h' ≡ put_pending (put_counts (put_state h t) n) base v → pause v ≡ says → Drives limits one text h₀ l₀ b₀ h' l b (Ok Ready)
   asking_pauses {h'} held q =
       drives_ready one h₀ l₀ b₀ h' l b a.loaded
       (halting_pauses a.low a.halting h refl a.kept.behind_kept (length-take-le stack_words h (omega (arith, a.long))) (says_fits q).low held (as_seen q))

@@ -2,6 +2,7 @@
 use Prim.Native.Nat.{◌+◌, ◌-◌, ◌≤◌, ℕ}
 use mathlib.Core.List.{List}
 use mathlib.Core.Path.{◌∙◌, ◌≡◌, ap, refl}
+use Rattle.std.specs.Prelude.{Result, Ok, Err}
 use native.Mathlib.Omega.{arith}
 use lib.ListN.{length}
 use Rattle.yaml_text.specs.declared.Refusal.{Refusal}
@@ -14,7 +15,7 @@ use Rattle.events.specs.declared.Event.{Event}
 use Rattle.events.specs.Event.{Countable, counted_of}
 use Rattle.states.specs.declared.State.{State}
 use Rattle.states.specs.declared.Fetched.{Fetched}
-use Rattle.states.specs.declared.Fetched.TheVariants.{Ends, Goes, Refused}
+use Rattle.states.specs.declared.Fetched.TheVariants.{Ends, Goes}
 use Rattle.states.specs.Refused.{choice_bytes}
 use Rattle.states.specs.State.{state_of}
 use Rattle.sink.specs.StepTokens.{put_news, shifted}
@@ -46,23 +47,23 @@ module _ {limits : Limits} {text a : List ℕ} {s : State} {n : Counts} (h : Ste
   left_here b = token_left (state_of text a (n.count + ended) s) b n.used
 
   module _ (c : Choice) {e b b' : List ℕ} where
-    pub taken_refused : {base : ℕ} {f : Refusal} (l : List ℕ) → AsDefined text s (λ t. choice t) c → Steps limits text a e b b' k s c (Refused f)
-        → StepDone limits text e (token_news limits text a s ended n) base n l b (left_here b) l b' (stepped.Refused f)
+    pub taken_refused : {base : ℕ} {f : Refusal} (l : List ℕ) → AsDefined text s (λ t. choice t) c → Steps limits text a e b b' k s c (Err f)
+        → StepDone limits text e (token_news limits text a s ended n) base n l b (left_here b) l b' (Err f)
     taken_refused l y g =
         let r = token_refused h ended few (rw behind at g) in
         refused_done l (record { same = r.same; bytes = r.bytes ∙ ap (λ (d : Choice). choice_bytes d b n.used) (y a (n.count + ended)) })
 
-    pub taken_countable : {r : Fetched} {v : Event} → Steps limits text a e b b' k s c r → FetchedEvent r v → Countable k v
+    pub taken_countable : {r : Result Fetched Refusal} {v : Event} → Steps limits text a e b b' k s c r → FetchedEvent r v → Countable k v
     taken_countable g f = rw behind (token_countable h ended few (rw behind at g) f)
 
-    module _ {base : ℕ} {r : Fetched} {v : Event} {m : Counts} (l : List ℕ) {l' : List ℕ} (g : Steps limits text a e b b' k s c r)
+    module _ {base : ℕ} {r : Result Fetched Refusal} {v : Event} {m : Counts} (l : List ℕ) {l' : List ℕ} (g : Steps limits text a e b b' k s c r)
         (stored : l' ≡ put_news l (n.count - base) s.place.mark ended (shifted base v)) (told : m ≡ counted_of k v) where
-      pub taken_goes : {t : State} → r ≡ Goes v t → length e ≡ length a → StepDone limits text e (token_news limits text a s ended n) base n l b (left_here b) l' b' (stepped.On t m)
+      pub taken_goes : {t : State} → r ≡ Ok (Goes v t) → length e ≡ length a → StepDone limits text e (token_news limits text a s ended n) base n l b (left_here b) l' b' (Ok (stepped.On t m))
       taken_goes q kept =
           let f = rw behind at g in
           record { answers = token_goes h ended few f q kept (rw behind at told); words = token_words h ended few base l f (fetched_as q refl going) stored }
 
-      pub taken_ends : r ≡ Ends v → StepDone limits text e (token_news limits text a s ended n) base n l b (left_here b) l' b' (stepped.Ends m)
+      pub taken_ends : r ≡ Ok (Ends v) → StepDone limits text e (token_news limits text a s ended n) base n l b (left_here b) l' b' (Ok (stepped.Ends m))
       taken_ends q =
           let f = rw behind at g in
           record { answers = token_ends h ended few f q (rw behind at told); words = token_words h ended few base l f (fetched_as q refl at_end) stored }

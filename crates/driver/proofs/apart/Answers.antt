@@ -7,6 +7,3 @@ returns-in-On c = rw c.anew.ensures (sym c.in-On.is)
 
 pub returns-in-Ends : goal.returns-in-Ends
 returns-in-Ends c = sym c.in-Ends.is
-
-pub returns-in-Refused : goal.returns-in-Refused
-returns-in-Refused c = sym c.in-Refused.is
