@@ -23,8 +23,7 @@ use Rattle.chars.specs.Bytes.{byte_char}
 use Rattle.chars.specs.Places.{moves_along}
 use Rattle.chars.specs.Reach.{reach_one}
 use Rattle.chars.specs.View.{Moves, Stands, past, view}
-use Rattle.reading.specs.declared.Reached.{Reached}
-use Rattle.reading.specs.declared.Reached.TheVariants as reached
+use Rattle.std.specs.Prelude.{Result, Ok, Err}
 use Rattle.reading.specs.Reading.{ReachesAs, seen_place}
 use Rattle.stacks.specs.declared.indent.Indents.{Indents}
 use Rattle.stacks.specs.Indent.{Low}
@@ -59,7 +58,7 @@ abbrev pub second : Place → Place
 second p = past p 1 (along p.mark)
 
 -- what is reached from there, over blanks and a comment
-abbrev pub Past : List ℕ → Place → Reached → Type 0
+abbrev pub Past : List ℕ → Place → Result Place Refusal → Type 0
 Past text p r = ReachesAs text (second p) r (blanks_and_comment (view text (second p)))
 
 module _ {text : List ℕ} {p : Place} (h : Stands text p) (b : OneByte text p) where
@@ -69,41 +68,32 @@ module _ {text : List ℕ} {p : Place} (h : Stands text p) (b : OneByte text p) 
   pub stands_second : Stands text (second p)
   stands_second = moved.stands
 
-  module _ {r : Reached} (w : Past text p r) where
-    -- it is what the definition reads
-    scanned : (k : Kind) → scan_bracket k (view text p) ≡ (seen_place text r >>= λ e. got (lexeme k p.mark e.mark e))
-    unfolding scan_bracket
-    scanned k = rw (← moved.same, w.same)
+  -- what the definition reads
+  scanned : {r : Result Place Refusal} → Past text p r → (k : Kind) → scan_bracket k (view text p) ≡ (seen_place text r >>= λ e. got (lexeme k p.mark e.mark e))
+  unfolding scan_bracket
+  scanned w k = rw (← moved.same, w.same)
 
-    pub emits_refused : {f : Refusal} → r ≡ reached.Refused f → (k : Kind) (implicit last : Bool) (x : definition.State) → x.place ≡ view text p
-        → emit_bracket k implicit last x ≡ refused f.number f.mark
-    unfolding emit_bracket seen_place ◌>>=◌
-    emits_refused q k implicit last x v = rw (v, scanned k, q)
-
-    -- the place that is reached
-    module _ {next : Place} (q : r ≡ reached.To next) where
-      pub past_stands : Stands text next × (p.at + 1 ≤ next.at)
-      past_stands = rw q at w.onward
-
-      pub past_index : next.mark.index < 2 ^ 31
-      past_index = omega (arith, past_stands.0)
+  pub emits_refused : {f : Refusal} → Past text p (Err f) → (k : Kind) (implicit last : Bool) (x : definition.State) → x.place ≡ view text p
+      → emit_bracket k implicit last x ≡ refused f.number f.mark
+  unfolding emit_bracket seen_place ◌>>=◌
+  emits_refused w k implicit last x v = rw (v, scanned w k)
 
 -- from the state s, behind the token with the indents i at the flow level l; from the words a to e, which are to be u
-pub emits_to : {limits : Limits} {text a e u : List ℕ} {n : Counts} {s : State} {i : Indents} {l : ℕ} {k : Kind} {c : held.Kind} {d : Read News} {r : Reached} {next : Place} (implicit last : Bool)
-    → Stands text s.place → OneByte text s.place → Past text s.place r → r ≡ reached.To next → Textless k c
+pub emits_to : {limits : Limits} {text a e u : List ℕ} {n : Counts} {s : State} {i : Indents} {l : ℕ} {k : Kind} {c : held.Kind} {d : Read News} {next : Place} (implicit last : Bool)
+    → Stands text s.place → OneByte text s.place → Past text s.place (Ok next) → Textless k c
     → Low limits.entries i → l ≤ limits.levels
     → d ≡ emit_bracket k implicit last (state_of text e n.count (s_with_level (s_with_indents s i) l)) → e ≡ u
-    → FetchesQuiet limits text a e u n s d (brief_fetched (goes_past (s_with_level (s_with_indents s i) l) implicit c next last))
+    → FetchesQuiet limits text a e u n s d (brief_fetched (Ok (goes_past (s_with_level (s_with_indents s i) l) implicit c next last)))
 unfolding emit_bracket seen_place ◌>>=◌ laid_events
-emits_to {text = text} {e = e} {n = n} {s} {i} {l} {k} {next = next} implicit last h b w q z low deep tells words =
+emits_to {text = text} {e = e} {n = n} {s} {i} {l} {k} {next = next} implicit last h b w z low deep tells words =
     let m = s.place.mark in
     let token = put (record { kind = k; start = m; end = next.mark }) ∷ [] in
-    let on = past_stands h b w q in
+    let on = w.onward in
     let none = textless_size z in
     fetch_quiet (empty_if implicit FlowMappingEnd m ++ token)
     (laid_of_opening _ _ _ ∙ rw (laid_opening opens_flow_end n.used m token implicit, laid_textless z n.used m next.mark []))
     (past_bracket (view text next) last (state_of text e n.count (s_with_level (s_with_indents s i) l)))
-    (tells ∙ rw (scanned h b w k, q))
+    (tells ∙ rw (scanned h b w k))
     refl
     (record {
       sane = record { stands = on.0; low = low; deep = deep };

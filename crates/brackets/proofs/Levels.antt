@@ -20,8 +20,7 @@ use Rattle.yaml_scan.specs.Indent.{top_ends}
 use Rattle.yaml_scan.specs.State.{in_flow, on_level, remove_key, save_key, with_indents, with_keys, with_levels}
 use Rattle.yaml_scan.specs.State as definition
 use Rattle.chars.specs.View.{Stands}
-use Rattle.reading.specs.declared.Reached.{Reached}
-use Rattle.reading.specs.declared.Reached.TheVariants.{Refused}
+use Rattle.std.specs.Prelude.{Err}
 use Rattle.stacks.specs.declared.indent.Indents.{Indents}
 use Rattle.stacks.specs.Frame.{SetsKey, SetsLevel, frame_keys, frame_levels, level_of, levels_length, with_level}
 use Rattle.stacks.specs.Stack.{entry_words}
@@ -101,10 +100,10 @@ module _ (limits : Limits) (sequence : Bool) (text a : List ℕ) (count : ℕ) (
         let o : length (save_key x).levels ≡ s.flow_level = rw (saved_levels x) (levels_length a s.flow_level) in
         rw (stacks_room limits (save_key x) entry tested (counted h), o, lt-ltb s.flow_level limits.levels l)
 
-    pub start_refused : {r : Reached} {f : Refusal} → s.flow_level < limits.levels → Stands text s.place → OneByte text s.place → Past text s.place r → r ≡ Refused f
+    pub start_refused : {f : Refusal} → s.flow_level < limits.levels → Stands text s.place → OneByte text s.place → Past text s.place (Err f)
         → fetch_flow_collection_start limits sequence x ≡ refused f.number f.mark
-    start_refused l g b w e =
-        start_emits l ∙ emits_refused g b w e (pick sequence FlowSequenceStart FlowMappingStart) false false (opened_from sequence entry (save_key x)) (saved_place x)
+    start_refused l g b w =
+        start_emits l ∙ emits_refused g b w (pick sequence FlowSequenceStart FlowMappingStart) false false (opened_from sequence entry (save_key x)) (saved_place x)
 
 -- by what the code did to the words: from a to b, c and e
 module _ {limits : Limits} {sequence entry : Bool} {a b c e : List ℕ} {count : ℕ} {s : State} {i : Indents}
@@ -150,20 +149,20 @@ module _ (sequence : Bool) (text a : List ℕ) (count : ℕ) (s : State) where
         let d : s.flow_level ≡ suc (s.flow_level - 1) = omega arith in
         rw (closes_by, f, levels_first a s.flow_level (omega arith), ← top, ap (frame_keys a) d)
 
-    pub end_refused : {r : Reached} {g : Refusal} → not (beq l.sequence sequence) ≡ false → Stands text s.place → OneByte text s.place → Past text s.place r → r ≡ Refused g
+    pub end_refused : {g : Refusal} → not (beq l.sequence sequence) ≡ false → Stands text s.place → OneByte text s.place → Past text s.place (Err g)
         → fetch_flow_collection_end sequence (state_of text a count s) ≡ refused g.number g.mark
-    end_refused f h b w e =
-        end_emits f ∙ emits_refused h b w e (pick sequence FlowSequenceEnd FlowMappingEnd) l.implicit true (state_of text a count (s_with_level s (s.flow_level - 1))) refl
+    end_refused f h b w =
+        end_emits f ∙ emits_refused h b w (pick sequence FlowSequenceEnd FlowMappingEnd) l.implicit true (state_of text a count (s_with_level s (s.flow_level - 1))) refl
 
 -- ','
 
 module _ {text : List ℕ} (a : List ℕ) (count : ℕ) (s : State) where
-  pub entry_refused : {r : Reached} {f : Refusal} → Stands text s.place → OneByte text s.place → Past text s.place r → r ≡ Refused f
+  pub entry_refused : {f : Refusal} → Stands text s.place → OneByte text s.place → Past text s.place (Err f)
       → fetch_flow_entry (state_of text a count s) ≡ refused f.number f.mark
   unfolding fetch_flow_entry remove_key emit_bracket
-  entry_refused h b w e =
+  entry_refused h b w =
       let x = state_of text a count s in
-      emits_refused h b w e FlowEntry (implicit_open x.levels) false (with_levels (new_entry x.levels) (remove_key x)) refl
+      emits_refused h b w FlowEntry (implicit_open x.levels) false (with_levels (new_entry x.levels) (remove_key x)) refl
 
 -- by what the code did to the words: from a to b and e
 module _ {a b e : List ℕ} {s : State} {l m : Level} (w : Removes a b s) (top : l ≡ level_of b s.flow_level) (v : SetsLevel b e s.flow_level m) (new : m ≡ new_level l.sequence) where

@@ -16,8 +16,8 @@ use Rattle.chars.specs.Places.{moves_none}
 use Rattle.chars.specs.View.{Stands, view}
 use Rattle.gaps.specs.Answers.{reaches_to}
 use Rattle.gaps.proofs.Laws.{blank_done, comment_none}
-use Rattle.reading.specs.declared.Reached.TheVariants.{To}
 use Rattle.reading.specs.Reading.{ReachesAs}
+use Rattle.std.specs.Prelude.{Ok}
 
 neither : (a b : Bool) → (a || b) ≡ false → (a ≡ false) × (b ≡ false)
 neither true b e = true_false e
@@ -25,7 +25,7 @@ neither false b e = (refl, e)
 
 -- by the byte b there
 pub reaches_here : {text : List ℕ} {p : Place} {b : ℕ} {blank : Bool} → Stands text p → b ≡ get_or text p.at 0 → blank ≡ is_blank b → (blank || eqb b '#') ≡ false
-    → ReachesAs text p (To p) (blanks_and_comment (view text p))
+    → ReachesAs text p (Ok p) (blanks_and_comment (view text p))
 unfolding blanks_and_comment
 reaches_here {text} {p} {b} {blank} h e f n =
     let o = neither blank (eqb b '#') n in
