@@ -1,8 +1,9 @@
 -- The escapes of double quotes, by the letter behind the backslash.
-use Prim.Native.Nat.{◌+◌, ◌-◌, ◌<◌, ℕ}
+use Rattle.std.specs.Prelude.{Some, None}
+use Prim.Native.Nat.{◌+◌, ◌-◌, ◌<◌, ◌≤◌, ℕ}
 use mathlib.Core.Bool.{false, true}
 use mathlib.Core.List.{List, [], ◌∷◌}
-use mathlib.Core.Path.{◌≡◌, refl, sym}
+use mathlib.Core.Path.{◌∙◌, ◌≡◌, ap, refl, subst, sym}
 use native.Mathlib.Omega.{arith}
 use lib.Dec.{T, eqb}
 use lib.ListN.{drop}
@@ -14,14 +15,14 @@ use Rattle.yaml_text.specs.Refusal.{◌>>=◌, got, need, refused}
 use Rattle.yaml_text.specs.Test.{by_test}
 use Rattle.yaml_text.specs.Utf8.{chars, is_scalar}
 use Rattle.yaml_text.specs.Utf8Laws.{bytes1}
+use Rattle.yaml_lexeme.specs.declared.Named.{Named}
 use Rattle.yaml_lexeme.specs.declared.Named.TheVariants.{Digits, Stands, Unknown}
 use Rattle.yaml_lexeme.specs.Table.{looked_up}
 use Rattle.yaml_lexeme.specs.Escape.{Row, escape, escape_of, escapes, named}
 use Rattle.yaml_lexeme.specs.EscapeTable.{each_row}
 use Rattle.chars.specs.Bytes.{CharAt, peek_char}
 use Rattle.chars.specs.Reach.{reach_one, reach_rest}
-use Rattle.escapes.specs.declared.hex.Hex.TheVariants.{Missing, Value}
-use Rattle.escapes.specs.Parts.{NumberAt}
+use Rattle.escapes.specs.Parts.{Letter, NumberAt}
 
 -- the numbers that a `match` has passed by, the last one first
 abbrev Passed : List ℕ → ℕ → Type 0
@@ -51,6 +52,21 @@ unlettered ks c t h = sym (not_in ks escapes c t (passed ks c h))
 pub low_char : (text : List ℕ) (at c : ℕ) → c ≡ peek (chars (drop at text)) 0 → 0 < c → c < 128 → CharAt text at c 1
 low_char text at c e h l = rw (bytes1 c l) at (peek_char text at c e h)
 
+-- the letter c behind the backslash, at a place of the text, is named l
+pub record Lettered (text : List ℕ) (at c : ℕ) (l : Named) : Type 0 where
+  pub seen : c ≡ peek (chars (drop at text)) 0
+  pub name : (l ≡ named c) × Letter c l
+
+module _ {text : List ℕ} {at c : ℕ} {l : Named} (h : Lettered text at c l) where
+  pub named_as : {k : Named} → l ≡ k → named (peek (chars (drop at text)) 0) ≡ k
+  named_as i = ap named (sym h.seen) ∙ sym h.name.0 ∙ i
+
+  pub standing : {k : ℕ} → l ≡ Stands k → CharAt text at c 1 × (k < 0x110000)
+  standing i = let s = subst (Letter c) i h.name.1 in (low_char text at c h.seen s.0 s.1, s.2)
+
+  pub counting : {n : ℕ} → l ≡ Digits n → CharAt text at c 1 × (n ≤ 8)
+  counting i = let s = subst (Letter c) i h.name.1 in (low_char text at c h.seen s.0 s.1, s.2)
+
 module _ (start : Mark) (cs : List ℕ) where
   pub escape_stands : (k : ℕ) → named (peek cs 0) ≡ Stands k → escape start cs ≡ got (record { char = k; took = 1 })
   unfolding escape escape_of
@@ -61,15 +77,15 @@ module _ (start : Mark) (cs : List ℕ) where
   escape_unknown e = rw e
 
 module _ (start : Mark) {text : List ℕ} {at c : ℕ} (d : CharAt text at c 1) (n : ℕ) (e : named (peek (chars (drop at text)) 0) ≡ Digits n) where
-  pub escape_missing : NumberAt text (at + 1) n Missing → escape start (chars (drop at text)) ≡ refused 38 start
+  pub escape_missing : NumberAt text (at + 1) n None → escape start (chars (drop at text)) ≡ refused 38 start
   unfolding escape escape_of ◌>>=◌
   escape_missing w = rw (e, ← reach_rest (reach_one d), w.same start)
 
-  pub escape_no_scalar : (v : ℕ) → NumberAt text (at + 1) n (Value v) → is_scalar 0 v ≡ false → escape start (chars (drop at text)) ≡ refused 39 start
+  pub escape_no_scalar : (v : ℕ) → NumberAt text (at + 1) n (Some v) → is_scalar 0 v ≡ false → escape start (chars (drop at text)) ≡ refused 39 start
   unfolding escape escape_of ◌>>=◌ need
   escape_no_scalar v w s = rw (e, ← reach_rest (reach_one d), w.same start, s)
 
-  pub escape_digits : (v : ℕ) → NumberAt text (at + 1) n (Value v) → is_scalar 0 v ≡ true
+  pub escape_digits : (v : ℕ) → NumberAt text (at + 1) n (Some v) → is_scalar 0 v ≡ true
       → escape start (chars (drop at text)) ≡ got (record { char = v; took = n + 2 - 1 })
   unfolding escape escape_of ◌>>=◌ need
   escape_digits v w s = let k : n + 2 - 1 ≡ n + 1 = omega arith in rw (e, ← reach_rest (reach_one d), w.same start, s, k)

@@ -1,4 +1,5 @@
 -- Numbers in hexadecimal digits, digit by digit.
+use Rattle.std.specs.Prelude.{Some, None}
 use Prim.Native.Nat.{◌*◌, ◌+◌, ◌-◌, ◌<◌, ◌^◌, ◌≤◌, suc, ℕ}
 use mathlib.Core.Bool.{Bool, ◌||◌, false, not, true}
 use mathlib.Core.List.{List, ◌∷◌}
@@ -17,7 +18,6 @@ use Rattle.utf8.proofs.Below.{all_below, below}
 use Rattle.chars.specs.Ascii.{ascii_low, hex_ascii}
 use Rattle.chars.specs.Bytes.{ascii_at, ascii_char}
 use Rattle.chars.specs.Reach.{Reach, none, reach_one, reach_then}
-use Rattle.escapes.specs.declared.hex.Hex.TheVariants.{Missing, Value}
 use Rattle.escapes.specs.Parts.{NumberAt}
 
 abbrev fits : ℕ → Bool
@@ -44,7 +44,6 @@ module _ (start : Mark) (n v : ℕ) (cs : List ℕ) where
 
 -- The number of n digits of the text, as it goes on with the value v after i of them: what is left gives the whole.
 pub record Reading (text : List ℕ) (at n v i : ℕ) : Type 0 where
-  pub few : i ≤ n
   pub small : v < 16 ^ i
   pub read : Reach text at i (at + i)
   pub whole : (start : Mark) → hex_number start n 0 (chars (drop at text)) ≡ hex_number start (n - i) v (chars (drop (at + i) text))
@@ -53,7 +52,7 @@ pub reading_start : (text : List ℕ) (at n : ℕ) → Reading text at n 0 0
 reading_start text at n =
     let e : at + 0 ≡ at = omega arith in
     let z : n - 0 ≡ n = omega arith in
-    record { few = omega arith; small = omega arith; read = rw e none; whole = λ start. rw (e, z) }
+    record { small = omega arith; read = rw e none; whole = λ start. rw (e, z) }
 
 -- a digit more
 module _ {text : List ℕ} {at n v i : ℕ} (w : Reading text at n v i) (h : i < n) where
@@ -75,13 +74,12 @@ module _ {text : List ℕ} {at n v i : ℕ} (w : Reading text at n v i) (h : i <
       let k = digit_value c f in
       let s : at + (i + 1) ≡ at + i + 1 = omega arith in
       record {
-        few = omega arith;
         small = rw add-one (omega (arith, w.small));
         read = rw s (reach_then w.read (reach_one d));
         whole = λ start. w.whole start ∙ rw (left, d.next, s, g) (digit_more start (n - (i + 1)) v (c ∷ chars (drop (at + i + 1) text)) f);
       }
 
-  pub reading_stop : {c : ℕ} → c ≡ get_or text (at + i) 0 → is_hex c ≡ false → NumberAt text at n Missing
+  pub reading_stop : {c : ℕ} → c ≡ get_or text (at + i) 0 → is_hex c ≡ false → NumberAt text at n None
   reading_stop {c} e f =
       record {
         same = λ start. w.whole start
@@ -89,10 +87,10 @@ module _ {text : List ℕ} {at n v i : ℕ} (w : Reading text at n v i) (h : i <
         found = tt;
       }
 
-pub reading_done : {text : List ℕ} {at n v i : ℕ} → Reading text at n v i → n ≤ i → NumberAt text at n (Value v)
+pub reading_done : {text : List ℕ} {at n v i : ℕ} → Reading text at n v i → i ≤ n → n ≤ i → NumberAt text at n (Some v)
 unfolding hex_number
-reading_done {n = n} {i = i} w h =
-    let e : i ≡ n = omega (arith, w.few) in
+reading_done {n = n} {i = i} w k h =
+    let e : i ≡ n = omega arith in
     let z : n - n ≡ 0 = omega arith in
     let u = rw e at w in
     record { same = λ start. u.whole start ∙ rw z; found = (u.small, u.read) }

@@ -1,4 +1,5 @@
 -- Octets in percent escapes.
+use Rattle.std.specs.Prelude.{Option, Some, None}
 use Prim.Native.Nat.{◌*◌, ◌+◌, ℕ}
 use mathlib.Core.List.{List, ◌∷◌}
 use mathlib.Core.Path.{◌∙◌, ◌≡◌, ap, refl}
@@ -14,8 +15,6 @@ use Rattle.yaml_lexeme.specs.Escape.{hex_number}
 use Rattle.yaml_lexeme.specs.Tag.{octet}
 use Rattle.chars.specs.Bytes.{CharAt, ne_char}
 use Rattle.chars.specs.Reach.{more}
-use Rattle.escapes.specs.declared.hex.Hex.{Hex}
-use Rattle.escapes.specs.declared.hex.Hex.TheVariants.{Missing, Value}
 use Rattle.escapes.specs.Parts.{HexFound, NumberAt, OctetAt, hex_read}
 use Rattle.escapes.proofs.Numbers.{digit_more, digit_none}
 
@@ -36,21 +35,21 @@ octet_number start cs =
     (λ f. rw (e, f, digit_more start 1 0 cs e, digit_none start 0 (0 * 16 + as_hex (peek cs 0)) (drop 1 cs) (rw k f))))
     (λ e. rw (e, digit_none start 1 0 cs e))
 
-same_refusal : (start : Mark) (r : Hex) → as_refusal 21 (hex_read 38 start r) ≡ hex_read 21 start r
-same_refusal start (Value v) = refl
-same_refusal start Missing = refl
+same_refusal : (start : Mark) (r : Option ℕ) → as_refusal 21 (hex_read 38 start r) ≡ hex_read 21 start r
+same_refusal start (Some v) = refl
+same_refusal start None = refl
 
-octet_found : {text : List ℕ} {at : ℕ} (r : Hex) → CharAt text at 37 1 → HexFound text (at + 1) 2 256 r → HexFound text at 3 256 r
-octet_found {at = at} (Value v) d f = let e : at + 1 + 2 ≡ at + 3 = omega arith in (f.0, rw (← e) (more d f.1))
-octet_found Missing d f = tt
+octet_found : {text : List ℕ} {at : ℕ} (r : Option ℕ) → CharAt text at 37 1 → HexFound text (at + 1) 2 256 r → HexFound text at 3 256 r
+octet_found {at = at} (Some v) d f = let e : at + 1 + 2 ≡ at + 3 = omega arith in (f.0, rw (← e) (more d f.1))
+octet_found None d f = tt
 
-pub octet_is : {text : List ℕ} {at : ℕ} {r : Hex} → CharAt text at 37 1 → NumberAt text (at + 1) 2 r → OctetAt text at r
+pub octet_is : {text : List ℕ} {at : ℕ} {r : Option ℕ} → CharAt text at 37 1 → NumberAt text (at + 1) 2 r → OctetAt text at r
 octet_is {text} {at} {r} d w =
     record {
       same = λ start. rw d.next (octet_number start (chars (drop (at + 1) text)) ∙ ap (as_refusal 21) (w.same start) ∙ same_refusal start r);
       found = octet_found r d w.found;
     }
 
-pub octet_not : {text : List ℕ} {at b : ℕ} → b ≡ get_or text at 0 → (b ≡ 37 → ⊥) → OctetAt text at Missing
+pub octet_not : {text : List ℕ} {at b : ℕ} → b ≡ get_or text at 0 → (b ≡ 37 → ⊥) → OctetAt text at None
 unfolding octet
 octet_not {text} {at} {b} e h = record { same = λ start. rw (ne_char text at b e 37 tt h); found = tt }

@@ -1,4 +1,5 @@
 -- Trailing octets, one by one.
+use Rattle.std.specs.Prelude.{Ok, Err, Some, None, ⊤}
 use Prim.Native.Nat.{◌*◌, ◌+◌, ◌-◌, ◌<◌, ◌≤◌, suc, ℕ}
 use mathlib.Core.Bool.{false, true}
 use mathlib.Core.List.{List, [], ◌++◌, ◌∷◌, append_assoc, append-nil}
@@ -13,8 +14,6 @@ use Rattle.yaml_text.specs.Refusal.{Read, ◌>>=◌, got, need, refused}
 use Rattle.yaml_text.specs.Utf8.{chars, is_tail}
 use Rattle.yaml_lexeme.specs.Tag.{octet, trailing}
 use Rattle.chars.specs.Reach.{Reach, none, reach_rest, reach_then}
-use Rattle.escapes.specs.declared.hex.Hex.TheVariants.{Missing, Value}
-use Rattle.escapes.specs.declared.percent.Octets.TheVariants.{All, Refused}
 use Rattle.escapes.specs.Parts.{OctetAt, Trails, tails}
 
 -- further octets before what is read
@@ -59,66 +58,69 @@ module _ (n : ℕ) (cs : List ℕ) where
   tails_none e = rw e
 
 -- The octets at a place, as they go on after the first i, which stand in out: what is left gives the whole.
-pub record Trailed (text : List ℕ) (at : ℕ) (before out : List ℕ) (i : ℕ) : Type 0 where
-  pub few : i ≤ length out
+pub record Trailed (text : List ℕ) (at : ℕ) (start : Mark) (before out : List ℕ) (i : ℕ) : Type 0 where
   pub same : length out ≡ length before
   pub read : Reach text at (3 * i) (at + 3 * i)
-  pub whole : (start : Mark) → trailing start (length before) (chars (drop at text))
+  pub whole : trailing start (length before) (chars (drop at text))
       ≡ behind (take i out) (trailing start (length out - i) (chars (drop (at + 3 * i) text)))
   pub stored : sets before 0 (tails (length before) (chars (drop at text))) ≡ sets out i (tails (length out - i) (chars (drop (at + 3 * i) text)))
 
-pub trailed_start : (text : List ℕ) (at : ℕ) (out : List ℕ) → Trailed text at out out 0
-trailed_start text at out =
+pub trailed_start : (text : List ℕ) (at : ℕ) (start : Mark) (out : List ℕ) → Trailed text at start out out 0
+trailed_start text at start out =
     let e : at + 0 ≡ at = omega arith in
     let z : length out - 0 ≡ length out = omega arith in
-    record { few = omega arith; same = refl; read = rw e none; whole = λ start. rw (e, z) (sym (behind_none _)); stored = rw (e, z) }
+    record { same = refl; read = rw e none; whole = rw (e, z) (sym (behind_none _)); stored = rw (e, z) }
 
-module _ {text : List ℕ} {at : ℕ} {before out : List ℕ} {i : ℕ} (w : Trailed text at before out i) (h : i < length out) where
+module _ {text : List ℕ} {at : ℕ} {start : Mark} {before out : List ℕ} {i : ℕ} (w : Trailed text at start before out i) (h : i < length before) where
+  within : i < length out
+  within = rw w.same h
+
   left : length out - i ≡ suc (length out - (i + 1))
-  left = omega arith
+  left = let l = within in omega arith
 
-  pub trailed_more : {b : ℕ} → OctetAt text (at + 3 * i) (Value b) → is_tail b ≡ true → Trailed text at before (set out i b) (i + 1)
+  pub trailed_more : {b : ℕ} → OctetAt text (at + 3 * i) (Some b) → is_tail b ≡ true → Trailed text at start before (set out i b) (i + 1)
   trailed_more {b} o f =
       let s : 3 * (i + 1) ≡ 3 * i + 3 = omega arith in
       let t : at + (3 * i + 3) ≡ at + 3 * i + 3 = omega arith in
       let r = length-set out i b in
-      let more : (start : Mark) → trailing start (length out - i) (chars (drop (at + 3 * i) text))
+      let more : trailing start (length out - i) (chars (drop (at + 3 * i) text))
       ≡ behind (b ∷ []) (trailing start (length out - (i + 1)) (chars (drop (at + 3 * i + 3) text)))
-      = λ start. rw (left, reach_rest o.found.1) (octet_more start (length out - (i + 1)) (chars (drop (at + 3 * i) text)) b (o.same start) f) in
+      = rw (left, reach_rest o.found.1) (octet_more start (length out - (i + 1)) (chars (drop (at + 3 * i) text)) b (o.same start) f) in
       record {
-        few = omega arith;
         same = r ∙ w.same;
         read = rw (s, t) (reach_then w.read o.found.1);
-        whole = λ start. w.whole start ∙ rw (more start, behind_one, s, t, r, add-one, take-suc-set out i b h);
+        whole = w.whole ∙ rw (more, behind_one, s, t, r, add-one, take-suc-set out i b within);
         stored = w.stored
             ∙ rw (left, tails_more (length out - (i + 1)) (chars (drop (at + 3 * i) text)) b (o.same origin) f, s, t, r, reach_rest o.found.1, add-one i);
       }
 
-  stops : {k : ℕ} → ((start : Mark) → trailing start (suc (length out - (i + 1))) (chars (drop (at + 3 * i) text)) ≡ refused k start)
-      → tails (suc (length out - (i + 1))) (chars (drop (at + 3 * i) text)) ≡ [] → Trails text at before out (Refused k)
+  stops : {k : ℕ} → trailing start (suc (length out - (i + 1))) (chars (drop (at + 3 * i) text)) ≡ refused k start
+      → tails (suc (length out - (i + 1))) (chars (drop (at + 3 * i) text)) ≡ []
+      → Trails text at start before out (Err (record { number = k; mark = start }))
   unfolding behind ◌>>=◌
-  stops e f = record { read = record { same = λ start. w.whole start ∙ rw (left, e start); found = tt }; bytes = sym (w.stored ∙ rw (left, f)) }
+  stops e f = record { read = record { same = w.whole ∙ rw (left, e); found = tt }; bytes = sym (w.stored ∙ rw (left, f)) }
 
-  pub trailed_head : {b : ℕ} → OctetAt text (at + 3 * i) (Value b) → is_tail b ≡ false → Trails text at before out (Refused 23)
+  pub trailed_head : {b : ℕ} → OctetAt text (at + 3 * i) (Some b) → is_tail b ≡ false
+      → Trails text at start before out (Err (record { number = 23; mark = start }))
   trailed_head {b} o f =
       let n = length out - (i + 1) in
       let cs = chars (drop (at + 3 * i) text) in
-      stops (λ start. octet_head start n cs b (o.same start) f) (tails_head n cs b (o.same origin) f)
+      stops (octet_head start n cs b (o.same start) f) (tails_head n cs b (o.same origin) f)
 
-  pub trailed_none : OctetAt text (at + 3 * i) Missing → Trails text at before out (Refused 21)
+  pub trailed_none : OctetAt text (at + 3 * i) None → Trails text at start before out (Err (record { number = 21; mark = start }))
   trailed_none o =
       let n = length out - (i + 1) in
       let cs = chars (drop (at + 3 * i) text) in
-      stops (λ start. octet_none start n cs (o.same start)) (tails_none n cs (o.same origin))
+      stops (octet_none start n cs (o.same start)) (tails_none n cs (o.same origin))
 
-pub trailed_done : {text : List ℕ} {at : ℕ} {before out : List ℕ} {i : ℕ} → Trailed text at before out i → length out ≤ i
-    → Trails text at before out All
+pub trailed_done : {text : List ℕ} {at : ℕ} {start : Mark} {before out : List ℕ} {i : ℕ} {u : ⊤} → Trailed text at start before out i
+    → i ≤ length before → length before ≤ i → Trails text at start before out (Ok u)
 unfolding trailing behind ◌>>=◌ tails
-trailed_done {out = out} {i = i} w h =
-    let e : i ≡ length out = omega (arith, w.few) in
+trailed_done {out = out} {i = i} w k h =
+    let e : i ≡ length out = omega (arith, w.same) in
     let z : length out - length out ≡ 0 = omega arith in
     let u = rw e at w in
     record {
-      read = record { same = λ start. u.whole start ∙ rw (z, take-length, append-nil); found = rw (← w.same) u.read };
+      read = record { same = u.whole ∙ rw (z, take-length, append-nil); found = rw (← w.same) u.read };
       bytes = sym (u.stored ∙ rw z);
     }

@@ -1,5 +1,6 @@
 -- A run of URI characters, one by one: what is left gives the whole.
 use Prim.Native.Nat.{◌+◌, ◌<◌, ◌≤◌, suc, zero, ℕ}
+use Rattle.std.specs.Prelude.{Result, Ok, Err}
 use mathlib.Core.Bool.{Bool, false, true}
 use mathlib.Core.List.{List, [], ◌∷◌}
 use mathlib.Core.Path.{◌∙◌, ◌≡◌, ap, refl, sym}
@@ -26,18 +27,16 @@ use Rattle.yaml_lexeme.specs.Tag.{percent, uri_at, uri_run}
 use Rattle.yaml_lexeme.specs.Token.{size}
 use Rattle.yaml_lexeme.specs.Turns.{uri_escape, uri_more, uri_passed, uri_stop}
 use Rattle.chars.specs.declared.mark.Place.{Place}
-use Rattle.chars.specs.Ascii.{Ascii, tag_ascii, uri_ascii}
+use Rattle.chars.specs.Ascii.{Ascii}
 use Rattle.chars.specs.Bytes.{CharAt, ascii_at}
 use Rattle.chars.specs.Places.{stands_along}
 use Rattle.chars.specs.Reach.{reach_rest}
 use Rattle.chars.specs.View.{Stands, past, view}
-use Rattle.escapes.specs.declared.answer.Escape.{Escape}
-use Rattle.escapes.specs.declared.answer.Escape.TheVariants as escape
+use Rattle.escapes.specs.declared.answer.Escaped as code
 use Rattle.escapes.specs.Escaped.{Escapes, escape_from}
-use Rattle.runs.specs.declared.Run.{Run}
-use Rattle.runs.specs.declared.Run.TheVariants.{Refused, To}
+use Rattle.reading.specs.declared.Written.{Written}
 use Rattle.runs.specs.Encode.{bytes_some, encode_ascii, encode_one}
-use Rattle.runs.specs.Run.{WritesOr, one_char, seen_run, uri_test, written}
+use Rattle.runs.specs.Run.{WritesOr, one_char, seen_run, written}
 use Rattle.runs.specs.RunLaws.{ran, run_refused, written_before}
 use Rattle.runs.proofs.Percent.{EscapeRead, percent_read}
 
@@ -79,24 +78,29 @@ module _ (f : ℕ → Bool) (start : Mark) where
       (λ g. uri_more f start m c cs e g ∙ rw (g, one_char))
 
 -- an escape that was read
-record Told (s : List ℕ) (p : Place) (v : ℕ) (q : Place) (d : Read Escaped) : Type 0 where
+record Told (s : List ℕ) (p : Place) (x : code.Escaped) (d : Read Escaped) : Type 0 where
   escaped_is : Escaped
   is : d ≡ got escaped_is
-  char : v ≡ escaped_is.char
-  next : q ≡ past p (escaped_is.took + 1) (along_by (escaped_is.took + 1) p.mark)
+  char : x.code ≡ escaped_is.char
+  next : x.next ≡ past p (escaped_is.took + 1) (along_by (escaped_is.took + 1) p.mark)
   read : EscapeRead s p.at escaped_is
 
-told : {s : List ℕ} {p : Place} {v : ℕ} {q : Place} {d : Read Escaped} → All Escaped (EscapeRead s p.at) d → escape.One v q ≡ escape_from p d → Told s p v q d
-unfolding escape_from
-told {d = got x} (holds h) e = record { escaped_is = x; is = refl; char = cc; next = cc; read = h }
-told {d = refused n m} h e = let z : ◌≡◌ {A = ℕ} 0 1 = cc in absurd (omega arith)
+ok_is : {A E : Type 0} {a b : A} → ◌≡◌ {A = Result A E} (Ok a) (Ok b) → a ≡ b
+ok_is e = cc
 
-told_refused : (p : Place) {f : Refusal} (d : Read Escaped) → escape.Refused f ≡ escape_from p d → d ≡ refused f.number f.mark
+told : {s : List ℕ} {p : Place} {x : code.Escaped} {d : Read Escaped} → All Escaped (EscapeRead s p.at) d → Ok x ≡ escape_from p d → Told s p x d
 unfolding escape_from
-told_refused p (got x) e = let z : ◌≡◌ {A = ℕ} 0 1 = cc in absurd (omega arith)
+told {d = got y} (holds h) e =
+    let w = ok_is e in
+    record { escaped_is = y; is = refl; char = ap (λ (z : code.Escaped). z.code) w; next = ap (λ (z : code.Escaped). z.next) w; read = h }
+told {d = refused n m} h e = cc
+
+told_refused : (p : Place) {f : Refusal} (d : Read Escaped) → Err f ≡ escape_from p d → d ≡ refused f.number f.mark
+unfolding escape_from
+told_refused p (got x) e = cc
 told_refused p {f} (refused n m) e = ap (λ (r : Refusal). refused r.number r.mark) (refusal (sym e))
   where
-    refusal : escape.Refused (record { number = n; mark = m }) ≡ escape.Refused f → record { number = n; mark = m } ≡ f
+    refusal : ◌≡◌ {A = Result code.Escaped Refusal} (Err (record { number = n; mark = m })) (Err f) → record { number = n; mark = m } ≡ f
     refusal g = cc
 
 module _ (start : Mark) where
@@ -113,7 +117,7 @@ module _ (start : Mark) where
 -- the three answers to a character
 module _ {s before after : List ℕ} {p : Place} {n : ℕ} (start : Mark) (h : Stands s p) where
   pub put_plain : {c : ℕ} {q : Place} → CharAt s p.at c 1 → c < 128 → (c ≡ '%' → ⊥) → after ≡ set before n c → q ≡ past p 1 (along p.mark)
-      → WritesOr s before after before p n (To q (n + 1)) (one_char start (view s p))
+      → WritesOr s before after before p n (Ok (record { count = n + 1; place = q })) (one_char start (view s p))
   unfolding seen_run written
   put_plain {c} a low e o g =
       let i : one_char start (view s p) ≡ got (record { text = c ∷ []; place = view s (past p 1 (along p.mark)) })
@@ -128,26 +132,27 @@ module _ {s before after : List ℕ} {p : Place} {n : ℕ} (start : Mark) (h : S
         leaves = tt;
       })
 
-  module _ {x : Escape} (a : CharAt s p.at '%' 1) (g : Escapes s p x (percent start (chars (drop p.at s)))) where
-    pub put_escape : {v : ℕ} {q : Place} {k : ℕ} → x ≡ escape.One v q → after ≡ sets before n (char_bytes v) → k ≡ n + length (char_bytes v)
-        → WritesOr s before after before p n (To q k) (one_char start (view s p))
+  module _ {x : Result code.Escaped Refusal} (a : CharAt s p.at '%' 1) (g : Escapes s p x (percent start (chars (drop p.at s)))) where
+    pub put_escape : {e : code.Escaped} {k : ℕ} → x ≡ Ok e → after ≡ sets before n (char_bytes e.code) → k ≡ n + length (char_bytes e.code)
+        → WritesOr s before after before p n (Ok (record { count = k; place = e.next })) (one_char start (view s p))
     unfolding seen_run written ◌>>=◌
-    put_escape {v} {q} {k} i o l =
+    put_escape {e} {k} i o l =
         let t = told (percent_read start s p.at) (sym i ∙ g.same) in
         let m = t.escaped_is.took + 1 in
-        let e : view s q ≡ skip_by m (view s p) = ap (view s) t.next ∙ ap (here (along_by m p.mark)) (reach_rest t.read.reach) in
+        let v = e.code in
+        let w : view s e.next ≡ skip_by m (view s p) = ap (view s) t.next ∙ ap (here (along_by m p.mark)) (reach_rest t.read.reach) in
         let few = rw (← t.char) at t.read.few in
         record {
           writes = record {
             same = rw (one_escape start p a, t.is, encode_one t.escaped_is.char, ← t.char, o, l)
-                (ap (λ (y : definition.Place). got (record { place = y; next = n + length (char_bytes v); bytes = sets before n (char_bytes v) })) e);
+                (ap (λ (y : definition.Place). got (record { place = y; next = n + length (char_bytes v); bytes = sets before n (char_bytes v) })) w);
             kept = ap length o ∙ length-sets before n (char_bytes v);
             ahead = ((rw i at g.ahead).1, omega (arith, l, ap (λ (y : Place). y.at) t.next));
           };
           leaves = tt;
         }
 
-    pub put_refused : {f : Refusal} → x ≡ escape.Refused f → after ≡ before → WritesOr s before after before p n (Refused f) (one_char start (view s p))
+    pub put_refused : {f : Refusal} → x ≡ Err f → after ≡ before → WritesOr s before after before p n (Err f) (one_char start (view s p))
     unfolding seen_run written ◌>>=◌
     put_refused i o =
         record {
@@ -164,31 +169,34 @@ one_some start p =
     (λ e. rw (e, one_char) (all_bind _ (all_any (percent start p.rest)) (λ x _. holds (some x.char))))
     (λ e. rw (e, one_char) (holds (some (look p))))
 
-pub record Running (f : ℕ → Bool) (start : Mark) (s before : List ℕ) (p : Place) (n : ℕ) (out : List ℕ) (q : Place) (k : ℕ) : Type 0 where
-  pub stands : Stands s q
-  pub few : k + p.at ≤ n + q.at
-  pub many : n ≤ k
+pub record Running (f : ℕ → Bool) (start : Mark) (s before : List ℕ) (p : Place) (n : ℕ) (out : List ℕ) (w : Written) : Type 0 where
+  pub stands : Stands s w.place
+  pub few : w.count + p.at ≤ n + w.place.at
+  pub many : n ≤ w.count
   pub kept : length out ≡ length before
   pub clears : cleared out n ≡ cleared before n
-  pub whole : written before n (uri_at f start (view s p)) ≡ written out k (uri_at f start (view s q))
+  pub whole : written before n (uri_at f start (view s p)) ≡ written out w.count (uri_at f start (view s w.place))
 
-pub running_start : {f : ℕ → Bool} {start : Mark} {s before : List ℕ} {p : Place} {n : ℕ} → Stands s p → Running f start s before p n before p n
+pub running_start : {f : ℕ → Bool} {start : Mark} {s before : List ℕ} {p : Place} {n : ℕ} → Stands s p
+    → Running f start s before p n before (record { count = n; place = p })
 running_start h = record { stands = h; few = omega arith; many = omega arith; kept = refl; clears = refl; whole = refl }
 
-module _ {f : ℕ → Bool} {start : Mark} {s before out : List ℕ} {p q : Place} {n k : ℕ} (w : Running f start s before p n out q k) where
-  pub running_stop : {c : ℕ} → Ascii f → c ≡ get_or s q.at 0 → f c ≡ false → WritesOr s before out (cleared before n) p n (To q k) (uri_at f start (view s p))
+module _ {f : ℕ → Bool} {start : Mark} {s before out : List ℕ} {p : Place} {n : ℕ} {v : Written} (w : Running f start s before p n out v) where
+  pub running_stop : {c : ℕ} → Ascii f → c ≡ get_or s v.place.at 0 → f c ≡ false
+      → WritesOr s before out (cleared before n) p n (Ok v) (uri_at f start (view s p))
   unfolding seen_run written encode
   running_stop {c} a b e =
-      let z : k + 0 ≡ k = omega arith in
-      let stop = uri_none f start q.mark (chars (drop q.at s)) (ascii_at s q.at c b a ∙ e) in
+      let z : v.count + 0 ≡ v.count = omega arith in
+      let stop = uri_none f start v.place.mark (chars (drop v.place.at s)) (ascii_at s v.place.at c b a ∙ e) in
       record { writes = record { same = sym (w.whole ∙ rw (stop, z)); kept = w.kept; ahead = (w.stands, w.few) }; leaves = tt }
 
-  module _ {c : ℕ} {out' : List ℕ} {r : Run} (a : CharAt s q.at c 1) (e : f c ≡ true) (g : WritesOr s out out' out q k r (one_char start (view s q))) where
-    turn : uri_at f start (view s q) ≡ one_char start (view s q) >>= after f start
-    turn = rw a.next (uri_turned f start q.mark c (chars (drop (q.at + 1) s)) e)
+  module _ {c : ℕ} {out' : List ℕ} {r : Result Written Refusal} (a : CharAt s v.place.at c 1) (e : f c ≡ true)
+      (g : WritesOr s out out' out v.place v.count r (one_char start (view s v.place))) where
+    turn : uri_at f start (view s v.place) ≡ one_char start (view s v.place) >>= after f start
+    turn = rw a.next (uri_turned f start v.place.mark c (chars (drop (v.place.at + 1) s)) e)
 
     -- the room is cleared from n on
-    pub running_refused : {x : Refusal} {out'' : List ℕ} → r ≡ Refused x → out'' ≡ cleared out' n → length out'' ≡ length out'
+    pub running_refused : {x : Refusal} {out'' : List ℕ} → r ≡ Err x → out'' ≡ cleared out' n → length out'' ≡ length out'
         → WritesOr s before out'' (cleared before n) p n r (uri_at f start (view s p))
     unfolding seen_run written ◌>>=◌
     running_refused i o l =
@@ -197,11 +205,11 @@ module _ {f : ℕ → Bool} {start : Mark} {s before out : List ℕ} {p q : Plac
           leaves = rw i (o ∙ ap (λ (x : List ℕ). cleared x n) (rw i at g.leaves) ∙ w.clears);
         }
 
-    module _ {q' : Place} {k' : ℕ} (i : r ≡ To q' k') where
-      pub running_on : q.at < q'.at
-      running_on = let t = ran g.writes i in omega (arith, t.few, t.next, all_got (one_some start (view s q)) t.is)
+    module _ {v' : Written} (i : r ≡ Ok v') where
+      pub running_on : v.place.at < v'.place.at
+      running_on = let t = ran g.writes i in omega (arith, t.few, t.next, all_got (one_some start (view s v.place)) t.is)
 
-      pub running_more : Running f start s before p n out' q' k'
+      pub running_more : Running f start s before p n out' v'
       unfolding after ◌>>=◌
       running_more =
           let t = ran g.writes i in
@@ -210,10 +218,6 @@ module _ {f : ℕ → Bool} {start : Mark} {s before out : List ℕ} {p q : Plac
             few = omega (arith, t.few, w.few);
             many = omega (arith, t.next, w.many);
             kept = g.writes.kept ∙ w.kept;
-            clears = rw t.bytes (cleared_sets (encode t.run) out n k w.many) ∙ w.clears;
-            whole = w.whole ∙ rw (turn, t.is) (written_before out k t.run (uri_at f start (view s q')) ∙ rw (← t.bytes, ← t.next));
+            clears = rw t.bytes (cleared_sets (encode t.run) out n v.count w.many) ∙ w.clears;
+            whole = w.whole ∙ rw (turn, t.is) (written_before out v.count t.run (uri_at f start (view s v'.place)) ∙ rw (← t.bytes, ← t.next));
           }
-
-pub uri_ascii_of : (suffix : Bool) → Ascii (uri_test suffix)
-uri_ascii_of true = tag_ascii
-uri_ascii_of false = uri_ascii

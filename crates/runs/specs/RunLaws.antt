@@ -1,5 +1,5 @@
 -- What the contracts of runs tell their callers.
-use Rattle.std.specs.Prelude.{◌+◌, ◌-◌, ◌≤◌, ℕ, false, true, List, ◌++◌, refl, drop, length}
+use Rattle.std.specs.Prelude.{◌+◌, ◌-◌, ◌≤◌, ℕ, false, true, List, Result, Ok, Err, ◌++◌, refl, drop, length}
 use Rattle.std.proofs.Common.{◌∙◌, sym, arith, length-append, length-drop, length-take-le, eq-eqb, ne_eqb}
 use Rattle.std.proofs.Math.Path.{◌≡◌, ap}
 use Rattle.std.proofs.lemmas.List.Edits.{sets}
@@ -14,8 +14,7 @@ use Rattle.yaml_lexeme.specs.Token.{size}
 use Rattle.chars.specs.declared.mark.Place.{Place}
 use Rattle.chars.specs.Parts.{Spans}
 use Rattle.chars.specs.View.{Stands, view}
-use Rattle.runs.specs.declared.Run.{Run}
-use Rattle.runs.specs.declared.Run.TheVariants.{Refused, To}
+use Rattle.reading.specs.declared.Written.{Written}
 use Rattle.runs.specs.Encode.{none_size}
 use Rattle.runs.specs.Run.{Writes, WrittenRun, seen_run, written}
 
@@ -32,20 +31,20 @@ module _ {text : List ℕ} {p r : Place} {d : definition.Run} (h : Spans text p 
   pub span_some : (r.at ≡ p.at → ⊥) → none_left d.text ≡ false
   span_some e = none_size d.text ∙ ne_eqb (size d.text) 0 (let k = span_size in let o = h.moves.onward in omega arith)
 
--- a run that was written up to q and k
-pub record Ran (text before after : List ℕ) (p : Place) (n : ℕ) (q : Place) (k : ℕ) (d : Read definition.Run) : Type 0 where
+-- a run that was written up to w
+pub record Ran (text before after : List ℕ) (p : Place) (n : ℕ) (w : Written) (d : Read definition.Run) : Type 0 where
   pub run : List ℕ
-  pub is : d ≡ got (record { text = run; place = view text q })
-  pub next : k ≡ n + size run
+  pub is : d ≡ got (record { text = run; place = view text w.place })
+  pub next : w.count ≡ n + size run
   pub bytes : after ≡ sets before n (encode run)
-  pub stands : Stands text q
-  pub few : k + p.at ≤ n + q.at
+  pub stands : Stands text w.place
+  pub few : w.count + p.at ≤ n + w.place.at
 
 got_is : {A : Type 0} {a b : A} → got a ≡ got b → a ≡ b
 got_is e = cc
 
-module _ {text before after : List ℕ} {p : Place} {n : ℕ} {r : Run} where
-  pub ran : {q : Place} {k : ℕ} {d : Read definition.Run} → Writes text before after p n r d → r ≡ To q k → Ran text before after p n q k d
+module _ {text before after : List ℕ} {p : Place} {n : ℕ} {r : Result Written Refusal} where
+  pub ran : {w : Written} {d : Read definition.Run} → Writes text before after p n r d → r ≡ Ok w → Ran text before after p n w d
   unfolding seen_run written
   ran {d = got x} h e =
       let w = got_is (rw e at h.same) in
@@ -60,7 +59,7 @@ module _ {text before after : List ℕ} {p : Place} {n : ℕ} {r : Run} where
       }
   ran {d = refused m f} h e = let u = rw e at h.same in let z : ◌≡◌ {A = ℕ} 0 1 = cc in absurd (omega arith)
 
-  pub run_refused : {f : Refusal} {d : Read definition.Run} → Writes text before after p n r d → r ≡ Refused f → d ≡ refused f.number f.mark
+  pub run_refused : {f : Refusal} {d : Read definition.Run} → Writes text before after p n r d → r ≡ Err f → d ≡ refused f.number f.mark
   unfolding seen_run written
   run_refused {d = got x} h e = let u = rw e at h.same in let z : ◌≡◌ {A = ℕ} 0 1 = cc in absurd (omega arith)
   run_refused {d = refused m k} h e = let u = rw e at h.same in cc
