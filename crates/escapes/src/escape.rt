@@ -20,6 +20,7 @@ use yaml_lexeme::Named;
 use yaml_text::{Mark, Refusal};
 
 // What a letter behind the backslash is.
+#[tactic(auto, unfolding(yaml_lexeme::specs::Escape::named, yaml_lexeme::specs::Table::looked_up))]
 fn letter(c: u32) -> Named
     ensures { (result ≡ named c) × Letter c result }
 {
