@@ -1,14 +1,16 @@
 -- A token of two texts, which are written one behind the other from a room's front on.
-use Rattle.std.specs.Prelude.{◌+◌, ℕ, List, ◌≡◌, length, replicate}
+use Rattle.std.specs.Prelude.{◌+◌, ℕ, List, Result, ◌≡◌, length}
 use Rattle.std.proofs.lemmas.List.Edits.{sets}
 use Rattle.yaml_text.specs.declared.Mark.{Mark}
+use Rattle.yaml_text.specs.declared.Refusal.{Refusal}
+use Rattle.yaml_text.specs.All.{All}
 use Rattle.yaml_text.specs.Mark.{Run}
 use Rattle.yaml_text.specs.Refusal.{Read, got, refused}
 use Rattle.yaml_text.specs.Utf8.{encode}
 use Rattle.yaml_lexeme.specs.declared.Kind.{Kind}
 use Rattle.yaml_lexeme.specs.declared.Text.{Text}
 use Rattle.yaml_lexeme.specs.Token.{size}
-use Rattle.reading.specs.declared.Reading.{Reading}
+use Rattle.reading.specs.declared.Lexeme.{Lexeme}
 use Rattle.reading.specs.Reading.{ReadsAhead, Seen, seen}
 
 -- the first text
@@ -26,12 +28,9 @@ held_texts kind start used n (got x) =
     })
 held_texts kind start used n (refused k m) = refused k m
 
--- the other text is written behind the first; a refusal leaves the lent bytes all zero
-unfoldable pub bytes_behind : List ℕ → ℕ → Read Run → List ℕ
-bytes_behind before n (got x) = sets before n (encode x.text)
-bytes_behind before n (refused k m) = replicate (length before) 0
-
-pub record HoldsTexts (kind : Text → Text → Kind) (text before after : List ℕ) (start : Mark) (used n : ℕ) (r : Reading) (d : Read Run) : Type 0 where
+-- the other text is written behind the first; of the bytes that a refusal leaves it tells only how many they are
+pub record HoldsTexts (kind : Text → Text → Kind) (text before after : List ℕ) (start : Mark) (used n : ℕ) (r : Result Lexeme Refusal) (d : Read Run) : Type 0 where
   pub same : seen text r ≡ held_texts kind start used n d
-  pub bytes : after ≡ bytes_behind before n d
+  pub bytes : All Run (λ x. after ≡ sets before n (encode x.text)) d
+  pub kept : length after ≡ length before
   pub ahead : ReadsAhead text r

@@ -1,6 +1,7 @@
 -- %TAG: its handle as code answers it, and what follows the handle.
-use Rattle.std.specs.Prelude.{ℕ, List}
+use Rattle.std.specs.Prelude.{ℕ, List, Result, Ok, Err}
 use Rattle.yaml_text.specs.declared.Mark.{Mark}
+use Rattle.yaml_text.specs.declared.Refusal.{Refusal}
 use Rattle.yaml_text.specs.Class.{is_blank_or_breakz}
 use Rattle.yaml_text.specs.Mark.{Run, look}
 use Rattle.yaml_text.specs.Mark as definition
@@ -9,13 +10,11 @@ use Rattle.yaml_lexeme.specs.Directive.{blanks_at, tag_prefix}
 use Rattle.yaml_lexeme.specs.Token.{Lexeme, TagDirective, lexeme}
 use Rattle.chars.specs.declared.mark.Place.{Place}
 use Rattle.chars.specs.Parts.{Spans}
-use Rattle.reading.specs.declared.Reached.{Reached}
-use Rattle.reading.specs.declared.Reached.TheVariants.{Refused, To}
 
 -- a handle that begins at p, or a refusal
-pub data Handles (text : List ℕ) (p : Place) : Reached → Read Run → Type 0 where
-  handle : {q : Place} {h : Run} → Spans text p q h → Handles text p (To q) (got h)
-  no_handle : {n : ℕ} {m : Mark} → Handles text p (Refused (record { number = n; mark = m })) (refused n m)
+pub data Handles (text : List ℕ) (p : Place) : Result Place Refusal → Read Run → Type 0 where
+  handle : {q : Place} {h : Run} → Spans text p q h → Handles text p (Ok q) (got h)
+  no_handle : {n : ℕ} {m : Mark} → Handles text p (Err (record { number = n; mark = m })) (refused n m)
 
 -- the prefix behind the handle; 19: no blank after it
 unfoldable pub prefix_run : Mark → definition.Place → Read Run

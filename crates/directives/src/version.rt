@@ -1,107 +1,74 @@
 // %YAML (12 to 14).
-ghost use Rattle.std.specs.Prelude.{◌≡◌, ◌≤◌, ℕ, drop};
+ghost use Rattle.std.specs.Prelude.{◌≤◌, drop, ℕ};
 ghost use Rattle.yaml_text.specs.Utf8.{chars};
 ghost use Rattle.yaml_lexeme.specs.Directive.{version_digits, version_directive, version_number};
 ghost use Rattle.chars.specs.View.{Stands, view};
 ghost use Rattle.reading.specs.Answers.{ReaderAnswers};
-ghost use Rattle.directives.specs.declared.version.Numbered.TheVariants.{Refused};
-ghost use Rattle.directives.specs.Version.{Numbers, minor_version};
+ghost use Rattle.directives.specs.Version.{Numbers};
 
 use chars::class::is_digit;
 use chars::code::ZERO;
 use chars::mark::Place;
+use chars::refuse::refuse;
 use gaps::skip_blanks;
-use reading::{Reading, got, refuse};
+use reading::Lexeme;
 use utf8::byte;
 use yaml_lexeme::Kind;
 use yaml_text::{Mark, Refusal};
 
-// A number with the place behind it, or a refusal.
+// A number with the place behind it.
 #[derive(Clone, Copy)]
-enum Numbered {
-    Got { value: u32, place: Place },
-    Refused(Refusal),
-}
-
-fn wrong(number: u32, start: Mark) -> Numbered
-    ensures { result ≡ Refused (record { number = number; mark = start }) }
-{
-    Numbered::Refused(Refusal {
-        number: number,
-        mark: start,
-    })
+struct Numbered {
+    value: u32,
+    place: Place,
 }
 
 // 14: a tenth digit.
-fn version_digits(text: &[u8], start: Mark, from: Place) -> Numbered
+fn version_digits(text: &[u8], start: Mark, from: Place) -> Result<Numbered, Refusal>
     requires { Stands text.now from }
     ensures { Numbers text.now from result (version_digits start 0 0 from.mark (chars (drop from.at text.now))) }
 {
-    let mut p = from;
-    let mut v: u32 = 0;
-    let mut n: u32 = 0;
-    loop {
-        let at = p.at;
-        let c = byte(text, at) as u32;
-        if is_digit(c) {
-            if n == 9 {
-                return wrong(14, start);
-            }
-            v = v * 10 + (c - ZERO);
-            n += 1;
-            p = p.skip_blank();
-        } else {
-            return Numbered::Got { value: v, place: p };
+    let mut place = from;
+    let mut value: u32 = 0;
+    for _digits in 0..9 {
+        let c = byte(text, place.at) as u32;
+        if !is_digit(c) {
+            return Ok(Numbered { value, place });
         }
+        value = value * 10 + (c - ZERO);
+        place = place.skip_blank();
     }
+    if is_digit(byte(text, place.at) as u32) {
+        return refuse(14, start);
+    }
+    Ok(Numbered { value, place })
 }
 
 // 12: no digit.
-fn version_number(text: &[u8], start: Mark, p: Place) -> Numbered
+fn version_number(text: &[u8], start: Mark, p: Place) -> Result<Numbered, Refusal>
     requires { Stands text.now p }
     ensures { Numbers text.now p result (version_number start (view text.now p)) }
 {
-    let at = p.at;
-    if is_digit(byte(text, at) as u32) {
-        return version_digits(text, start, p);
+    if !is_digit(byte(text, p.at) as u32) {
+        return refuse(12, start);
     }
-    wrong(12, start)
+    version_digits(text, start, p)
 }
 
-// The rest of a version, behind its first number. 13: no '.'.
-fn minor_version(text: &[u8], start: Mark, major: u32, p: Place) -> Reading
-    requires { Stands text.now p × (1 ≤ p.at) }
-    ensures { (used : ℕ) → ReaderAnswers text.now used result (minor_version start major (view text.now p)) }
-{
-    let at = p.at;
-    if byte(text, at) == b'.' {
-        let minor = version_number(text, start, p.skip_blank());
-        return match minor {
-            Numbered::Refused(f) => Reading::Refused(f),
-            Numbered::Got { value, place } => {
-                got(
-                    Kind::VersionDirective {
-                        major,
-                        minor: value,
-                    },
-                    start,
-                    place.mark,
-                    place,
-                )
-            }
-        };
-    }
-    refuse(13, start)
-}
-
-// Behind its name.
-pub fn version_directive(text: &[u8], start: Mark, p: Place) -> Reading
+// Behind its name. 13: no '.'.
+pub fn version_directive(text: &[u8], start: Mark, p: Place) -> Result<Lexeme, Refusal>
     requires { Stands text.now p × (1 ≤ p.at) }
     ensures { (used : ℕ) → ReaderAnswers text.now used result (version_directive start (view text.now p)) }
 {
-    let major = version_number(text, start, skip_blanks(text, p));
-    match major {
-        Numbered::Refused(f) => Reading::Refused(f),
-        Numbered::Got { value, place } => minor_version(text, start, value, place),
+    let major = version_number(text, start, skip_blanks(text, p))?;
+    let dot = major.place;
+    if byte(text, dot.at) != b'.' {
+        return refuse(13, start);
     }
+    let minor = version_number(text, start, dot.skip_blank())?;
+    let kind = Kind::VersionDirective {
+        major: major.value,
+        minor: minor.value,
+    };
+    Ok(Lexeme::new(kind, start, minor.place.mark, minor.place))
 }

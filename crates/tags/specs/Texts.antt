@@ -1,7 +1,8 @@
 -- Both texts of a tag, as they stand one behind the other from the room's front: what code answers, held against the definition.
-use Rattle.std.specs.Prelude.{◌+◌, ◌≤◌, ℕ, List, ◌++◌, ◌≡◌, drop, length, replicate}
+use Rattle.std.specs.Prelude.{◌+◌, ◌≤◌, ℕ, List, Result, Ok, Err, ◌++◌, ◌≡◌, drop, length}
 use Rattle.std.proofs.lemmas.List.Edits.{sets}
 use Rattle.yaml_text.specs.declared.Mark.{Mark}
+use Rattle.yaml_text.specs.declared.Refusal.{Refusal}
 use Rattle.yaml_text.specs.Char.{'!'}
 use Rattle.yaml_text.specs.Class.{is_alpha}
 use Rattle.yaml_text.specs.Mark.{Run, along, run_of}
@@ -16,7 +17,6 @@ use Rattle.chars.specs.Parts.{Spans}
 use Rattle.chars.specs.View.{Stands, past, view}
 use Rattle.reading.specs.Reading.{first_at}
 use Rattle.tags.specs.declared.tag.Texts.{Texts}
-use Rattle.tags.specs.declared.tag.Texts.TheVariants.{Got, Refused}
 
 -- the lengths of both texts, the place behind them, and all bytes of the room
 pub record Laid : Type 0 where
@@ -26,9 +26,9 @@ pub record Laid : Type 0 where
   pub bytes : List ℕ
 
 -- what code answers
-unfoldable pub seen_texts : List ℕ → List ℕ → Texts → Read Laid
-seen_texts text after (Got a b q) = got (record { one = a; other = b; place = view text q; bytes = after })
-seen_texts text after (Refused f) = refused f.number f.mark
+unfoldable pub seen_texts : List ℕ → List ℕ → Result Texts Refusal → Read Laid
+seen_texts text after (Ok t) = got (record { one = t.one; other = t.other; place = view text t.place; bytes = after })
+seen_texts text after (Err f) = refused f.number f.mark
 
 -- what the definition answers, its texts written from the room's front
 unfoldable pub laid_texts : List ℕ → Read tag.Texts → Read Laid
@@ -37,18 +37,14 @@ laid_texts before (got t) =
 laid_texts before (refused k m) = refused k m
 
 -- the place behind stands in the text, and the texts are no longer than what was read
-abbrev pub BehindTexts : List ℕ → Texts → Type 0
-BehindTexts text (Got a b q) = Stands text q × (1 ≤ q.at) × (a + b ≤ q.at)
-BehindTexts text (Refused f) = Unit {0}
+abbrev pub BehindTexts : List ℕ → Result Texts Refusal → Type 0
+BehindTexts text (Ok t) = Stands text t.place × (1 ≤ t.place.at) × (t.one + t.other ≤ t.place.at)
+BehindTexts text (Err f) = Unit {0}
 
--- a refusal leaves the lent bytes all zero
-abbrev pub Cleared : List ℕ → List ℕ → Texts → Type 0
-Cleared before after (Got a b q) = Unit {0}
-Cleared before after (Refused f) = after ≡ replicate (length before) 0
-
-pub record Lays (text before after : List ℕ) (r : Texts) (d : Read tag.Texts) : Type 0 where
+-- of the bytes that a refusal leaves it tells only how many they are
+pub record Lays (text before after : List ℕ) (r : Result Texts Refusal) (d : Read tag.Texts) : Type 0 where
   pub same : seen_texts text after r ≡ laid_texts before d
-  pub cleared : Cleared before after r
+  pub kept : length after ≡ length before
   pub ahead : BehindTexts text r
 
 -- what the readers of tags are given: a text that begins with a tag's mark

@@ -3,28 +3,34 @@ ghost use Rattle.yaml_lexeme.specs.Anchor.{scan_anchor};
 ghost use Rattle.chars.specs.View.{view};
 ghost use Rattle.reading.specs.Reading.{Indicated, Lexes, first_at};
 
+use chars::class::AnchorChar;
 use chars::mark::Place;
-use reading::{Reading, got, refuse_out, text_at};
+use chars::pick::pick;
+use reading::{Lexeme, refuse_out, text_at};
 use rooms::copy;
-use runs::{Class, run_of};
+use runs::run_of;
 use yaml_lexeme::Kind;
-use yaml_text::Mark;
+use yaml_text::{Mark, Refusal};
 
 // From its indicator. 27: no name.
-pub fn scan_anchor(text: &[u8], start: Mark, alias: bool, used: u32, out: &mut [u8]) -> Reading
+pub fn scan_anchor(
+    text: &[u8],
+    start: Mark,
+    alias: bool,
+    used: u32,
+    out: &mut [u8],
+) -> Result<Lexeme, Refusal>
     requires { Indicated text.now start used }
     ensures { Lexes text.now out.old out.new used result (scan_anchor alias (view text.now (first_at start))) }
 {
-    let first = Place { at: 0, mark: start };
-    let e = run_of(text, first.skip_blank(), Class::Anchor);
+    let first = Place::first_at(start);
+    let e = run_of::<AnchorChar>(text, first.skip_blank());
     let to = e.at;
     if to == 1 {
         return refuse_out(27, start, out);
     }
     copy(out, 0, &text[1..to]);
     let name = text_at(used, to - 1);
-    if alias {
-        return got(Kind::Alias(name), start, e.mark, e);
-    }
-    got(Kind::Anchor(name), start, e.mark, e)
+    let kind = pick(alias, Kind::Alias(name), Kind::Anchor(name));
+    Ok(Lexeme::new(kind, start, e.mark, e))
 }
