@@ -1,5 +1,5 @@
 // What character stands at a place of a text (RFC 3629).
-#![tactic(auto)]
+#![tactic(auto, unfolding(yaml_text::specs::Utf8::is_tail, yaml_text::specs::Utf8::is_scalar, yaml_text::specs::Utf8::len_of, yaml_text::specs::Utf8::two, yaml_text::specs::Utf8::three, yaml_text::specs::Utf8::four))]
 
 ghost use Rattle.std.specs.Prelude.{◌≡◌, ◌<◌, drop, get_or, length};
 ghost use Rattle.yaml_text.specs.Utf8.{chars, first, four, is_scalar, is_tail, len_of, three, two};
@@ -11,19 +11,18 @@ use yaml_text::Decoded;
 pub fn byte(s: &[u8], at: usize) -> u8
     ensures { result ≡ get_or s.now at 0 }
 {
-    if at < s.len() { s[at] } else { 0 }
+    s.get(at).copied().unwrap_or(0)
 }
 
 // How many bytes the character of a lead byte takes, by its leading one bits; 0: it leads none.
 pub fn lead_len(b: u8) -> u32
     ensures { result ≡ len_of b }
 {
-    let n = u8::leading_zeros(!b);
-    match n {
-        0 => 1,
-        2 => 2,
-        3 => 3,
-        4 => 4,
+    match b {
+        0..=0x7f => 1,
+        0xc0..=0xdf => 2,
+        0xe0..=0xef => 3,
+        0xf0..=0xf7 => 4,
         _ => 0,
     }
 }
@@ -32,42 +31,22 @@ pub fn lead_len(b: u8) -> u32
 pub fn is_tail(b: u8) -> bool
     ensures { result ≡ is_tail b }
 {
-    if b < 128 {
-        return false;
-    }
-    b < 192
+    matches!(b, 0x80..=0xbf)
 }
 
 // Whether c is a code point from lo up that is no surrogate.
 pub fn is_scalar(lo: u32, c: u32) -> bool
     ensures { result ≡ is_scalar lo c }
 {
-    if c < lo {
-        return false;
-    }
-    if c < 0xd800 {
-        return true;
-    }
-    if c <= 0xdfff {
-        return false;
-    }
-    c < 0x110000
-}
-
-fn wide(b: u8) -> u32
-    ensures { (result ≡ b) × (result < 256) }
-{
-    b as u32
+    lo <= c && char::from_u32(c).is_some()
 }
 
 pub fn two_bytes(a: u8, b: u8) -> Decoded
     ensures { result ≡ two a b }
 {
     let v = (a as u32) % 32 * 64 + (b as u32) % 64;
-    if is_tail(b) {
-        if is_scalar(0x80, v) {
-            return Decoded::Char { code: v, len: 2 };
-        }
+    if is_tail(b) && is_scalar(0x80, v) {
+        return Decoded::Char { code: v, len: 2 };
     }
     Decoded::Ill
 }
@@ -76,12 +55,8 @@ pub fn three_bytes(a: u8, b: u8, c: u8) -> Decoded
     ensures { result ≡ three a b c }
 {
     let v = (a as u32) % 16 * 4096 + (b as u32) % 64 * 64 + (c as u32) % 64;
-    if is_tail(b) {
-        if is_tail(c) {
-            if is_scalar(0x800, v) {
-                return Decoded::Char { code: v, len: 3 };
-            }
-        }
+    if is_tail(b) && is_tail(c) && is_scalar(0x800, v) {
+        return Decoded::Char { code: v, len: 3 };
     }
     Decoded::Ill
 }
@@ -93,15 +68,8 @@ pub fn four_bytes(a: u8, b: u8, c: u8, d: u8) -> Decoded
         + (b as u32) % 64 * 4096
         + (c as u32) % 64 * 64
         + (d as u32) % 64;
-    if !is_tail(b) {
-        return Decoded::Ill;
-    }
-    if is_tail(c) {
-        if is_tail(d) {
-            if is_scalar(0x10000, v) {
-                return Decoded::Char { code: v, len: 4 };
-            }
-        }
+    if is_tail(b) && is_tail(c) && is_tail(d) && is_scalar(0x10000, v) {
+        return Decoded::Char { code: v, len: 4 };
     }
     Decoded::Ill
 }
@@ -112,26 +80,17 @@ fn long_char(s: &[u8], at: usize) -> Decoded
     ensures { result ≡ first (drop at s.now) }
 {
     let a = s[at];
-    let n = lead_len(a);
-    if n == 0 {
-        return Decoded::Ill;
-    }
-    if n == 1 {
-        return Decoded::Char {
-            code: wide(a),
-            len: 1,
-        };
-    }
     let b = byte(s, at + 1);
-    if n == 2 {
-        return two_bytes(a, b);
+    match lead_len(a) {
+        0 => Decoded::Ill,
+        1 => Decoded::Char {
+            code: u32::from(a),
+            len: 1,
+        },
+        2 => two_bytes(a, b),
+        3 => three_bytes(a, b, byte(s, at + 2)),
+        _ => four_bytes(a, b, byte(s, at + 2), byte(s, at + 3)),
     }
-    let c = byte(s, at + 2);
-    if n == 3 {
-        return three_bytes(a, b, c);
-    }
-    let d = byte(s, at + 3);
-    four_bytes(a, b, c, d)
 }
 
 // What stands at a place: a character with its length, ill-formed bytes, or the end.
@@ -144,7 +103,7 @@ pub fn char_at(s: &[u8], at: usize) -> Decoded
     let a = s[at];
     if a < 128 {
         return Decoded::Char {
-            code: wide(a),
+            code: u32::from(a),
             len: 1,
         };
     }
@@ -160,12 +119,10 @@ pub fn look(s: &[u8], at: usize) -> u32
     }
     let a = s[at];
     if a < 128 {
-        return wide(a);
+        return u32::from(a);
     }
-    let d = long_char(s, at);
-    match d {
+    match long_char(s, at) {
         Decoded::Char { code, len: _ } => code,
-        Decoded::Ill => 0,
-        Decoded::End => 0,
+        Decoded::Ill | Decoded::End => 0,
     }
 }

@@ -9,6 +9,6 @@ returns-then-s-at c = sym (first_past c.args.s.now c.args.at c.if-s-at.true)
 
 pub returns-then-a-lt128 : goal.returns-then-a-lt128
 returns-then-a-lt128 c =
-    let w = c.wide.ensures.0 in
-    let args = c.args in
-    plain_at args.s.now args.at c.wide.result c.if-s-at.false w (rw w c.if-a-lt128.true)
+    let a = c.args in
+    let b = c.from.ensures in
+    plain_at a.s.now a.at c.from.result c.if-s-at.false b (rw b c.if-a-lt128.true)
