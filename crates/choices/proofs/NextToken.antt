@@ -1,5 +1,6 @@
 -- The way to the next token: each of its ends is one case of the definition, by what the gap, the lapse and the unrolling answered.
 use Prim.Native.Nat.{◌+◌, ◌<◌, ◌≤◌, ℕ}
+use Rattle.std.specs.Prelude.{Ok, Err}
 use mathlib.Core.Bool.{◌&&◌, not, true}
 use mathlib.Core.List.{List, [], ◌∷◌}
 use mathlib.Core.Path.{◌∙◌, ◌≡◌, refl, sym}
@@ -22,14 +23,12 @@ use Rattle.yaml_scan.specs.Keys.{lapse, stale, top_key}
 use Rattle.yaml_scan.specs.Scan.{to_next_token, unrolled}
 use Rattle.yaml_scan.specs.State.{lapse_key, with_keys}
 use Rattle.gaps.specs.declared.Gap.{Gap}
-use Rattle.gaps.specs.declared.Gapped.TheVariants.{Got, Refused}
 use Rattle.gaps.specs.Gap.{Skips, seen_gap}
 use Rattle.stacks.specs.declared.indent.Unrolled.{Unrolled}
 use Rattle.stacks.specs.Frame.{frame_keys, key_of}
 use Rattle.stacks.specs.Indent.{Low, Unrolls}
 use Rattle.stacks.proofs.Entries.{below_same, low_below}
 use Rattle.stacks.proofs.Rolls.{refused_got}
-use Rattle.states.specs.declared.Lapsed.TheVariants as lapsed
 use Rattle.states.specs.declared.State.{State}
 use Rattle.states.specs.Answer.{lent_kept}
 use Rattle.states.specs.Fetch.{Ready}
@@ -74,7 +73,7 @@ module _ (a : List ℕ) (s : State) where
       let b = both_true (not (ltb 0 s.flow_level)) (lapses_at s.place.mark (key_of a s.flow_level)) t in
       rw (in_flow_seen [] a 0 s, not-true (ltb 0 s.flow_level) b.0, lapse_key, lapse_goes s.place.mark (key_of a s.flow_level) b.1)
 
-  pub refused_stays : {e : List ℕ} {f : Refusal} → Lapses a e s (lapsed.Refused f) → e ≡ a
+  pub refused_stays : {e : List ℕ} {f : Refusal} → Lapses a e s (Err f) → e ≡ a
   unfolding lapsed_words lapsed_seen
   refused_stays l =
       l.words
@@ -92,12 +91,12 @@ abbrev pub behind : State → Gap → State
 behind s g = s_moved s g.place g.leading_whitespace g.simple_key_allowed
 
 module _ (text a : List ℕ) (s : State) where
-  pub gap_refused : {f : Refusal} → Skips text s.place (Refused f) (gap_of text s) → Stops text a a s f.number f.mark
+  pub gap_refused : {f : Refusal} → Skips text s.place (Err f) (gap_of text s) → Stops text a a s f.number f.mark
   unfolding to_next_token seen_gap ◌>>=◌
   gap_refused k = record { same = λ count. rw (in_flow_seen text a count s, ← k.same); words = refl }
 
-  module _ {g : Gap} (k : Skips text s.place (Got g) (gap_of text s)) where
-    pub lapse_refused : {e : List ℕ} {f : Refusal} → Lapses a e (behind s g) (lapsed.Refused f) → Stops text a e s f.number f.mark
+  module _ {g : Gap} (k : Skips text s.place (Ok g) (gap_of text s)) where
+    pub lapse_refused : {e : List ℕ} {f : Refusal} → Lapses a e (behind s g) (Err f) → Stops text a e s f.number f.mark
     unfolding to_next_token seen_gap lapsed_seen ◌>>=◌
     lapse_refused l =
         record {
@@ -105,7 +104,7 @@ module _ (text a : List ℕ) (s : State) where
           words = refused_stays a (behind s g) l;
         }
 
-    pub advances : {limits : Limits} {e : List ℕ} {u : Unrolled} → Ready limits text a s → length e ≡ length a → Lapses a e (behind s g) lapsed.Passed
+    pub advances : {limits : Limits} {e : List ℕ} {u : Unrolled} → Ready limits text a s → length e ≡ length a → Lapses a e (behind s g) (Ok tt)
         → UnrollsHere e (behind s g) u
         → AdvancesTo limits text a e s (s_with_indents (behind s g) u.indents) u.ended
     unfolding to_next_token seen_gap lapsed_seen lapsed_words removed_words ◌>>=◌

@@ -2,7 +2,6 @@
 ghost use Rattle.std.specs.Prelude.{◌≡◌, ◌+◌, ◌^◌, ◌<◌, ltb, drop};
 ghost use Rattle.yaml_text.specs.Char.{':'};
 ghost use Rattle.yaml_text.specs.Class.{peek};
-ghost use Rattle.yaml_text.specs.Pick.{pick};
 ghost use Rattle.yaml_text.specs.Utf8.{chars};
 ghost use Rattle.yaml_scan.specs.Choice.{choice, indicator};
 ghost use Rattle.yaml_scan.specs.Value.{takes_colon};
@@ -16,18 +15,10 @@ use chars::code::{
     QUESTION, SINGLE_QUOTE,
 };
 use chars::mark::is_marker;
+use chars::pick::pick;
 use states::State;
 use utf8::look;
 use yaml_scan::Choice;
-
-fn pick(b: bool, x: Choice, y: Choice) -> Choice
-    ensures { result ≡ pick b x y }
-{
-    if b {
-        return x;
-    }
-    y
-}
 
 // Whether K5 takes the ':' here.
 fn takes_colon(text: &[u8], s: State) -> bool
@@ -53,6 +44,7 @@ fn dash_or_question(text: &[u8], flow: bool, at: usize, found: Choice) -> Choice
 }
 
 // The token whose first character is c, in the definition's groups: brackets and ',', dashes, those with text, those that begin none.
+#[tactic(auto, unfolding(yaml_scan::specs::Choice::indicator, yaml_text::specs::Class::among))]
 fn indicator(text: &[u8], s: State, c: u32) -> Choice
     requires { CharHere text.now s c }
     ensures { result ≡ indicator (ltb 0 s.flow_level) (colon_before s (peek (ahead text.now s) 1)) c (peek (ahead text.now s) 1) }

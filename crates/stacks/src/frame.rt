@@ -9,13 +9,18 @@ use yaml_scan::{Candidate, Level};
 use yaml_text::Mark;
 
 // A level as a word.
+#[tactic(auto, unfolding(crate::specs::Frame::level_word))]
 fn level_word(l: Level) -> u32
     ensures { result ≡ level_word l }
 {
-    l.sequence as u32 + 2 * (l.colon as u32) + 4 * (l.question as u32) + 8 * (l.implicit as u32)
+    u32::from(l.sequence)
+        + 2 * u32::from(l.colon)
+        + 4 * u32::from(l.question)
+        + 8 * u32::from(l.implicit)
 }
 
 // The candidate of a level.
+#[tactic(auto, unfolding(crate::specs::Frame::key_at))]
 pub fn key(stacks: &[u32; STACK_WORDS], level: usize) -> Candidate
     requires { level ≤ 255 }
     ensures { result ≡ key_of stacks.now level }
@@ -60,7 +65,7 @@ pub fn set_key(stacks: &mut [u32; STACK_WORDS], level: usize, required: bool, nu
     ensures { SetsKey stacks.old stacks.new level (candidate.Possible required number m) }
 {
     let at = ENTRIES + level * FRAME_WORDS;
-    stacks[at] = 1 + required as u32;
+    stacks[at] = 1 + u32::from(required);
     stacks[at + 1] = number;
     stacks[at + 2] = m.index;
     stacks[at + 3] = m.line;
@@ -68,6 +73,7 @@ pub fn set_key(stacks: &mut [u32; STACK_WORDS], level: usize, required: bool, nu
 }
 
 // The data of a level.
+#[tactic(auto, unfolding(crate::specs::Frame::level_bits))]
 pub fn level_data(stacks: &[u32; STACK_WORDS], level: usize) -> Level
     requires { level ≤ 255 }
     ensures { result ≡ level_of stacks.now level }

@@ -98,7 +98,7 @@ fn entry_word(indent: u32, ends: bool) -> u32
     requires { indent < 2 ^ 31 }
     ensures { result ≡ word_of indent ends }
 {
-    indent * 2 + ends as u32
+    indent * 2 + u32::from(ends)
 }
 
 // 48, at m: the stack is full.

@@ -1,8 +1,0 @@
--- By the test.
-use Rattle.choices.proofs.choice.pick.Goals as goal
-
-pub returns-then-b : goal.returns-then-b
-returns-then-b c = rw c.if-b.true
-
-pub returns : goal.returns
-returns c = rw c.if-b.false
