@@ -3,16 +3,21 @@ use Prim.Native.Nat.{◌%◌, ◌*◌, ◌+◌, ◌-◌, ◌<◌, ◌^◌, ◌�
 use mathlib.Core.List.{List, [], ◌++◌, ◌∷◌, append_assoc, append-nil}
 use mathlib.Core.Path.{◌∙◌, ◌≡◌, ap, refl, sym}
 use native.Mathlib.Omega.{arith}
-use lib.ListN.{drop, get_or, length, length-append, take, take-append-drop}
+use lib.ListN.{drop, get_or, length, length-append, length-drop, take, take-append-drop}
 use lib.Seq.{drop_at, length-take-le, set-get_or, sets, sets-eq, take-add, take-nil, take-take}
 use borrow.Author.Tests.{ne_eqb}
+use Rattle.std.specs.Prelude.{Option, Some, None}
+use Rattle.std.proofs.lemmas.Option.{none-some, same_Some}
+use Rattle.yaml_lexeme.specs.declared.Kind.{Kind as HeldKind}
 use Rattle.yaml_lexeme.specs.declared.Kind.TheVariants as held
-use Rattle.yaml_lexeme.specs.Token.{Key, Kind}
+use Rattle.yaml_lexeme.specs.Token.{Kind}
 use Rattle.yaml_lexeme.specs.Record.{laid, number_of, record_words}
 use Rattle.rooms.specs.Room.{sets_join, take_sets}
 use Rattle.records.specs.Kinds.{note_base}
 use Rattle.records.specs.Note.{empty_at, note_in, without_note, without_note_length}
-use Rattle.records.proofs.Reading.{whole_length}
+use Rattle.records.specs.declared.noted.Noted.{Noted}
+use Rattle.records.specs.declared.noted.Noted.TheVariants.{Block, Key as KeyNoted, Nothing, Pair}
+use Rattle.records.specs.Noted.{first_noted, noted, noted_number, rest_noted}
 use Rattle.sink.specs.Settle.{before, block, count, empties, extra, flatten, front, note_kinds, number, opener, record_at, settled_words, total_records}
 
 -- lists of records
@@ -43,6 +48,9 @@ flatten_snoc : (rs : List (List ℕ)) (r : List ℕ) → flatten (rs ++ (r ∷ [
 unfolding flatten
 flatten_snoc [] r = append-nil (block r)
 flatten_snoc (a ∷ rs) r = rw (flatten_snoc rs r) (sym (append_assoc (block a) (flatten rs) (block r)))
+
+whole_length : (at : ℕ) (l : List ℕ) → at + record_words ≤ length l → length (take record_words (drop at l)) ≡ record_words
+whole_length at l h = let e = length-drop at l in length-take-le record_words (drop at l) (omega arith)
 
 -- one record more
 
@@ -163,52 +171,62 @@ block_put (suc i) j k l r out w e m a b o =
 
 -- what goes in before a record
 
-pub opener_two : (n k : ℕ) → n ≡ 2 → k ≡ number_of held.FlowMappingStart → k ≡ number (opener n)
-unfolding opener laid
-opener_two n k e f = rw e f
+-- what goes in: nothing, one token or two
+abbrev pub Goes : Noted → (List ℕ → List ℕ) → ℕ → Type 0
+Goes n words k = (extra (noted_number n) ≡ k) × ((x : List ℕ) → before (noted_number n) x ≡ words x)
 
-pub opener_other : (n k : ℕ) → (n ≡ 2 → ⊥) → k ≡ number_of held.BlockMappingStart → k ≡ number (opener n)
-unfolding opener laid
-opener_other n k e f = rw (ne_eqb n 2 e, opener) f
+pub goes_none : (n : Noted) {f : Option HeldKind} → f ≡ first_noted n → f ≡ None → Goes n (λ x. []) 0
+unfolding note_kinds empties
+goes_none Nothing e f = (refl, λ x. refl)
+goes_none KeyNoted e f = absurd (none-some _ (sym f ∙ e))
+goes_none Pair e f = absurd (none-some _ (sym f ∙ e))
+goes_none Block e f = absurd (none-some _ (sym f ∙ e))
 
-pub before_one : (n : ℕ) (r : List ℕ) → n ≡ 1 → (extra n ≡ 1) × (before n r ≡ empty_at (number Key) r)
-unfolding note_kinds empties number_of laid
-before_one n r e = rw e (refl, refl)
+module _ {f g : Option HeldKind} {r : Noted} (k : HeldKind) (some : f ≡ Some k) (second : g ≡ first_noted r) where
+  pub goes_one : (n : Noted) → f ≡ first_noted n → r ≡ rest_noted n → g ≡ None → Goes n (λ x. empty_at (number_of k) x) 1
+  unfolding note_kinds empties number_of laid
+  goes_one Nothing e s d = absurd (none-some k (sym e ∙ some))
+  goes_one KeyNoted e s d = rw (sym (same_Some _ k (sym e ∙ some))) (refl, λ x. refl)
+  goes_one Pair e s d = absurd (none-some held.Key (sym d ∙ second ∙ ap (λ (m : Noted). first_noted m) s))
+  goes_one Block e s d = absurd (none-some held.Key (sym d ∙ second ∙ ap (λ (m : Noted). first_noted m) s))
 
-pub before_two : (n : ℕ) (r : List ℕ) → (n ≡ 0 → ⊥) → (n ≡ 1 → ⊥) → (extra n ≡ 2) × (before n r ≡ empty_at (number (opener n)) r ++ empty_at (number Key) r)
-unfolding note_kinds empties number_of laid
-before_two zero r e f = absurd (e refl)
-before_two (suc zero) r e f = absurd (f refl)
-before_two (suc (suc n)) r e f = (refl, refl)
+  pub goes_two : (n : Noted) (j : HeldKind) → f ≡ first_noted n → r ≡ rest_noted n → g ≡ Some j → Goes n (λ x. empty_at (number_of k) x ++ empty_at (number_of j) x) 2
+  unfolding note_kinds empties number_of laid opener
+  goes_two Nothing j e s d = absurd (none-some k (sym e ∙ some))
+  goes_two KeyNoted j e s d = absurd (none-some j (sym (ap (λ (m : Noted). first_noted m) s) ∙ sym second ∙ d))
+  goes_two Pair j e s d = rw (sym (same_Some _ k (sym e ∙ some)), sym (same_Some _ j (sym (ap (λ (m : Noted). first_noted m) s) ∙ sym second ∙ d))) (refl, λ x. refl)
+  goes_two Block j e s d = rw (sym (same_Some _ k (sym e ∙ some)), sym (same_Some _ j (sym (ap (λ (m : Noted). first_noted m) s) ∙ sym second ∙ d))) (refl, λ x. refl)
 
 -- the stores of a block, one after the other
 
-pub put_none : (n j : ℕ) (x l : List ℕ) → n ≡ 0 → (j ≡ j - extra n) × (l ≡ sets l (j * record_words) (before n x))
-unfolding note_kinds empties
-put_none n j x l e = rw e (omega arith, refl)
+pub put_none : (n : Noted) (j : ℕ) (x l : List ℕ) → Goes n (λ x. []) 0 → (j ≡ j - extra (noted_number n)) × (l ≡ sets l (j * record_words) (before (noted_number n) x))
+put_none n j x l h = rw (h.0, h.1 x) (omega arith, refl)
 
-pub put_one : (n j k : ℕ) (x l out : List ℕ) → n ≡ 1 → k ≡ number_of held.Key → out ≡ sets l ((j - 1) * record_words) (empty_at k x)
-    → (j - 1 ≡ j - extra n) × (out ≡ sets l ((j - 1) * record_words) (before n x))
-unfolding laid
-put_one n j k x l out e f o = let b = before_one n x e in rw (b.0, b.1) (refl, o ∙ rw f)
+pub put_one : (n : Noted) (j k : ℕ) (x l out : List ℕ) → Goes n (λ x. empty_at k x) 1 → out ≡ sets l ((j - 1) * record_words) (empty_at k x)
+    → (j - 1 ≡ j - extra (noted_number n)) × (out ≡ sets l ((j - 1) * record_words) (before (noted_number n) x))
+put_one n j k x l out h o = rw (h.0, h.1 x) (refl, o)
 
-pub put_two : (n j p k : ℕ) (x l m out : List ℕ) → (n ≡ 0 → ⊥) → (n ≡ 1 → ⊥) → p ≡ number (opener n) → k ≡ number_of held.Key
-    → m ≡ sets l ((j - 2) * record_words) (empty_at p x) → out ≡ sets m ((j - 2 + 1) * record_words) (empty_at k x)
-    → (j - 2 ≡ j - extra n) × (out ≡ sets l ((j - 2) * record_words) (before n x))
-unfolding laid
-put_two n j p k x l m out e f q g a o =
-    let t = before_two n x e f in
-    let s : (j - 2 + 1) * record_words ≡ (j - 2) * record_words + record_words = omega arith in
-    rw (t.0, t.1) (refl, o ∙ rw (a, q, g, s) (sets_join (empty_at (number (opener n)) x) (empty_at (number Key) x) l ((j - 2) * record_words)))
+pub put_two : (n : Noted) (j p k : ℕ) (x l m out : List ℕ) → 2 ≤ j → Goes n (λ x. empty_at p x ++ empty_at k x) 2 → m ≡ sets l ((j - 2) * record_words) (empty_at p x)
+    → out ≡ sets m ((j - 1) * record_words) (empty_at k x) → (j - 2 ≡ j - extra (noted_number n)) × (out ≡ sets l ((j - 2) * record_words) (before (noted_number n) x))
+put_two n j p k x l m out h w a o =
+    let s : (j - 1) * record_words ≡ (j - 2) * record_words + record_words = omega arith in
+    rw (w.0, w.1 x) (refl, o ∙ rw (a, s) (sets_join (empty_at p x) (empty_at k x) l ((j - 2) * record_words)))
+
+pub kinds_noted : (k : ℕ) {n : Noted} → n ≡ noted k → note_kinds (noted_number n) ≡ note_kinds k
+unfolding note_kinds opener
+kinds_noted zero e = rw e
+kinds_noted (suc zero) e = rw e
+kinds_noted (suc (suc zero)) e = rw e
+kinds_noted (suc (suc (suc k))) e = rw (e, ne_eqb (suc (suc (suc k))) 2 (λ h. absurd (omega (arith, h))))
 
 pub stored_as : (l : List ℕ) (p : ℕ) {out e e' : List ℕ} → out ≡ sets l p e → e ≡ e' → out ≡ sets l p e'
 stored_as l p o f = o ∙ ap (λ (x : List ℕ). sets l p x) f
 
-pub before_fits : (j i : ℕ) (x l : List ℕ) → (length x ≡ record_words) × (count x ≤ j) × (j * record_words ≤ length l) × (j < 2 ^ 32) → i ≡ note_in x
+pub before_fits : (j i : ℕ) (x l : List ℕ) → (length x ≡ record_words) × (count x ≤ j) × (j * record_words ≤ length l) × (j < 2 ^ 32) → note_kinds i ≡ note_kinds (note_in x)
     → (extra i ≤ j - 1) × ((j - 1) * record_words ≤ length l) × (j - 1 < 2 ^ 32)
 before_fits j i x l h e = rw e (omega (arith, h), omega (arith, h), omega (arith, h))
 
-pub put_last : (j k i : ℕ) (x l m y out : List ℕ) → count x ≤ j → i ≡ note_in x → k ≡ j - 1 - extra i → m ≡ sets l (k * record_words) (before i x)
+pub put_last : (j k i : ℕ) (x l m y out : List ℕ) → count x ≤ j → note_kinds i ≡ note_kinds (note_in x) → k ≡ j - 1 - extra i → m ≡ sets l (k * record_words) (before i x)
     → y ≡ without_note x → out ≡ sets m ((j - 1) * record_words) y → (k ≡ j - count x) × (out ≡ sets l (k * record_words) (block x))
 put_last j k i x l m y out h f e mm a o =
     let n = empties_length (note_kinds (note_in x)) x in

@@ -130,6 +130,10 @@ pub fn put_news(words: &mut [u32], base: u32, n: u32, here: Mark, ended: u32, e:
 
 // The empty token that a token with its own way (`put_brief`) may stand behind.
 pub trait Leads {
+    ghost use Rattle.events.specs.declared.Opening.{Opening};
+
+    ghost OPENING: { Opening };
+
     const OPENING: Opening;
 }
 
@@ -137,6 +141,10 @@ pub trait Leads {
 pub struct PairEnd;
 
 impl Leads for PairEnd {
+    ghost use Rattle.events.specs.declared.Opening.TheVariants.{FlowMappingEnd};
+
+    ghost OPENING = { FlowMappingEnd };
+
     const OPENING: Opening = Opening::FlowMappingEnd;
 }
 
@@ -144,6 +152,10 @@ impl Leads for PairEnd {
 pub struct BlockStart;
 
 impl Leads for BlockStart {
+    ghost use Rattle.events.specs.declared.Opening.TheVariants.{BlockSequenceStart};
+
+    ghost OPENING = { BlockSequenceStart };
+
     const OPENING: Opening = Opening::BlockSequenceStart;
 }
 

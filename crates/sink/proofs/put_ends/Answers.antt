@@ -5,16 +5,10 @@ use Rattle.sink.proofs.Storing.{ends_more, ends_none, ends_start}
 use Rattle.sink.proofs.put_ends.Goals as goal
 
 pub loop-i-init : goal.loop-i-init
-loop-i-init c = (refl, omega arith, ends_start _ _ c.args.n c.args.k)
+loop-i-init c = ends_start _ _ c.args.n c.args.k
 
 pub loop-i-preserved : goal.loop-i-preserved
-loop-i-preserved c =
-    let l = c.loop-i in
-    let p = c.put_empty_token-i in (
-      p.auto.words ∙ l.invariant.0,
-      omega (arith, c.loop-i-test.true, p.ensures.0),
-      l.invariant.2 ∙ ends_more l.words _ _ l.i _ _ c.loop-i-test.true p.ensures.0 p.ensures.1,
-    )
+loop-i-preserved c = let l = c.loop-i in l.invariant ∙ ends_more l.words _ _ l.i _ _ c.loop-i-test.true refl c.put_empty_token.ensures.1
 
 pub returns : goal.returns
-returns c = let l = c.loop-i in (refl, sym (l.invariant.2 ∙ ends_none l.words _ l.i _ (omega arith)))
+returns c = let l = c.loop-i in (refl, sym (l.invariant ∙ ends_none l.words _ l.i _ (omega (arith, c.loop-i-test.false))))
