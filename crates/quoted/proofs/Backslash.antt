@@ -5,7 +5,8 @@ use mathlib.Core.List.{List, [], ◌∷◌, append-nil}
 use mathlib.Core.Path.{◌∙◌, ◌≡◌, ap, refl, sym}
 use native.Mathlib.Omega.{arith}
 use lib.Dec.{eqb}
-use lib.ListN.{drop, length, replicate}
+use lib.ListN.{drop, length}
+use Rattle.std.proofs.Common.{Err, Ok, Result}
 use lib.Seq.{sets}
 use Rattle.yaml_text.specs.declared.Refusal.{Refusal}
 use Rattle.yaml_text.specs.Char.{backslash}
@@ -13,7 +14,8 @@ use Rattle.yaml_text.specs.Class.{is_blank, is_break, peek}
 use Rattle.yaml_text.specs.Mark.{along, along_by, break_length, new_line}
 use Rattle.yaml_text.specs.Refusal.{Read, before_read, got, refused}
 use Rattle.yaml_text.specs.Utf8.{char_bytes, chars, encode}
-use Rattle.yaml_lexeme.specs.Escape.{Escaped, escape}
+use Rattle.yaml_lexeme.specs.Escape.{escape}
+use Rattle.yaml_lexeme.specs.Escape as definition
 use Rattle.yaml_lexeme.specs.Quoted.{chars_of, escape_turn, joined, quoted_run}
 use Rattle.yaml_lexeme.specs.Sizes.{width_some}
 use Rattle.chars.specs.declared.mark.Place.{Place}
@@ -22,22 +24,20 @@ use Rattle.chars.specs.Lines.{break_reach}
 use Rattle.chars.specs.Places.{stands_along, stands_line}
 use Rattle.chars.specs.Reach.{Reach, reach_rest, reach_within}
 use Rattle.chars.specs.View.{past, view}
-use Rattle.escapes.specs.declared.answer.Escape.{Escape}
-use Rattle.escapes.specs.declared.answer.Escape.TheVariants as answer
+use Rattle.escapes.specs.declared.answer.Escaped.{Escaped}
 use Rattle.escapes.specs.Escaped.{Escapes, escape_from}
 use Rattle.gaps.specs.Breaks.{Breaks, breaks, none, one, two}
 use Rattle.quoted.specs.declared.fold.Mode.TheVariants as mode
-use Rattle.quoted.specs.declared.turns.End.TheVariants.{Refused}
 use Rattle.quoted.specs.declared.turns.Quote.{Quote}
 use Rattle.quoted.specs.declared.turns.Turned.{Turned}
-use Rattle.quoted.specs.declared.turns.Turned.TheVariants.{Ends, Goes}
+use Rattle.quoted.specs.declared.turns.Turned.TheVariants.{Goes}
 use Rattle.quoted.specs.Modes.{mode_of}
 use Rattle.quoted.specs.Texts.{passing, quote_by}
-use Rattle.quoted.specs.Advance.{Advances, Sound, number_of, quote_of, rest_of, text_turn, turn_of}
+use Rattle.quoted.specs.Advance.{Advances, Sound, quote_of, rest_of, text_turn, turn_of}
 use Rattle.quoted.proofs.Putting.{take_escape, take_joined}
 use Rattle.quoted.proofs.Runs.{before_none, behind, pass_break, run_passing}
 use Rattle.quoted.proofs.Texts.{pass_along, pass_reach, run_escape, run_joined}
-use Rattle.quoted.proofs.Told.{escape_at_start, escape_passes}
+use Rattle.quoted.proofs.Told.{escape_passes}
 use Rattle.quoted.proofs.Turning.{goes_on, refused_at}
 
 -- a break, told by its length
@@ -63,24 +63,30 @@ is_backslash : (single : Bool) → single ≡ false → (not single && eqb backs
 is_backslash single u = rw u
 
 -- the character that was escaped, and a refusal
-record Taken (p : Place) (d : Read Escaped) (c : ℕ) (next : Place) : Type 0 where
-  esc : Escaped
+record Taken (p : Place) (d : Read definition.Escaped) (x : Escaped) : Type 0 where
+  esc : definition.Escaped
   is : d ≡ got esc
-  char : c ≡ esc.char
-  at_is : next.at ≡ p.at + (esc.took + 1)
-  mark_is : next.mark ≡ along_by (esc.took + 1) p.mark
+  char : x.code ≡ esc.char
+  at_is : x.next.at ≡ p.at + (esc.took + 1)
+  mark_is : x.next.mark ≡ along_by (esc.took + 1) p.mark
 
-taken : (p : Place) (d : Read Escaped) (c : ℕ) (next : Place) → answer.One c next ≡ escape_from p d → Taken p d c next
+taken : (p : Place) (d : Read definition.Escaped) (x : Escaped) → Ok x ≡ escape_from p d → Taken p d x
 unfolding escape_from
-taken p (got e) c next f =
-    let g : next ≡ record { at = p.at + (e.took + 1); mark = along_by (e.took + 1) p.mark } = cc in
-    record { esc = e; is = refl; char = cc; at_is = ap (λ (x : Place). x.at) g; mark_is = ap (λ (x : Place). x.mark) g }
-taken p (refused n m) c next f = let z : ◌≡◌ {A = ℕ} 0 1 = cc in absurd (omega arith)
+taken p (got e) x f =
+    let g : x ≡ record { code = e.char; next = record { at = p.at + (e.took + 1); mark = along_by (e.took + 1) p.mark } } = cc in
+    record {
+      esc = e;
+      is = refl;
+      char = ap (λ (x : Escaped). x.code) g;
+      at_is = ap (λ (x : Escaped). x.next.at) g;
+      mark_is = ap (λ (x : Escaped). x.next.mark) g;
+    }
+taken p (refused n m) x f = cc
 
-not_taken : (p : Place) (d : Read Escaped) (f : Refusal) → answer.Refused f ≡ escape_from p d → d ≡ refused f.number f.mark
+not_taken : (p : Place) (d : Read definition.Escaped) {f : Refusal} → Err f ≡ escape_from p d → d ≡ refused f.number f.mark
 unfolding escape_from
-not_taken p (got e) f g = let z : ◌≡◌ {A = ℕ} 0 1 = cc in absurd (omega arith)
-not_taken p (refused n m) f g = let h : f ≡ record { number = n; mark = m } = cc in rw h
+not_taken p (got e) g = cc
+not_taken p (refused n m) {f} g = let h : f ≡ record { number = n; mark = m } = cc in rw h
 
 -- the text behind the backslash
 abbrev pub after : List ℕ → Place → List ℕ
@@ -88,8 +94,8 @@ after text p = chars (drop (p.at + 1) text)
 
 module _ (q : Quote) {text : List ℕ} {p : Place} {n : ℕ} (s : Sound text (text_turn p n)) (a : CharAt text p.at backslash 1) (u : q.single ≡ false) where
   -- an escaped break of k characters
-  pub joined_turns : (before : List ℕ) {k : ℕ} {r : Turned} → k ≡ break_length (after text p) → 0 < k
-      → r ≡ Goes (record { place = past (past p 1 (along p.mark)) k (new_line k (along p.mark)); mode = mode.Escaped; count = n })
+  pub joined_turns : (before : List ℕ) {k : ℕ} {r : Result Turned Refusal} → k ≡ break_length (after text p) → 0 < k
+      → r ≡ Ok (Goes (record { place = past (past p 1 (along p.mark)) k (new_line k (along p.mark)); mode = mode.Escaped; count = n }))
       → Advances text q before before (text_turn p n) r
   unfolding mode_of encode
   joined_turns before {k} e h f =
@@ -113,7 +119,7 @@ module _ (q : Quote) {text : List ℕ} {p : Place} {n : ℕ} (s : Sound text (te
       (omega arith) f
 
   module _ (v : break_length (after text p) ≤ 0) where
-    escape_is : {d : Read Escaped} → escape q.start (after text p) ≡ d
+    escape_is : {d : Read definition.Escaped} → escape q.start (after text p) ≡ d
         → rest_of text q (text_turn p n) ≡ behind (quote_of q) p.mark (after text p) (escape_turn [] d)
     unfolding mode_of
     escape_is e =
@@ -122,47 +128,42 @@ module _ (q : Quote) {text : List ℕ} {p : Place} {n : ℕ} (s : Sound text (te
         (breaks_no (breaks (after text p)) v)
         ∙ rw e)
 
-    -- an escape of the character c
-    module _ {c : ℕ} {next : Place} (x : Taken p (escape q.start (after text p)) c next) where
-      one_place : passing x.esc.took (along p.mark) (after text p) ≡ view text next
+    -- an escape of a character
+    module _ {x : Escaped} (t : Taken p (escape q.start (after text p)) x) where
+      one_place : passing t.esc.took (along p.mark) (after text p) ≡ view text x.next
       one_place =
           let m = p.mark in
-          let j = x.esc.took in
-          let y = escape_passes q.start (after text p) x.esc x.is in
+          let j = t.esc.took in
+          let y = escape_passes q.start (after text p) t.esc t.is in
           let z : p.at + 1 + j ≡ p.at + (j + 1) = omega arith in
           let k : m.index + 1 + j ≡ m.index + (j + 1) = omega arith in
           let l : m.col + 1 + j ≡ m.col + (j + 1) = omega arith in
-          pass_along j (along m) (after text p) y.1 ∙ rw (x.mark_is, x.at_is, ← z, reach_rest (pass_reach text (p.at + 1) j y.1), k, l)
+          pass_along j (along m) (after text p) y.1 ∙ rw (t.mark_is, t.at_is, ← z, reach_rest (pass_reach text (p.at + 1) j y.1), k, l)
 
-      one_is : rest_of text q (text_turn p n) ≡ before_read (c ∷ []) (quoted_run (quote_of q) chars_of 0 next.mark (chars (drop next.at text)))
-      one_is = escape_is x.is ∙ rw (← x.char, run_passing (quote_of q) chars_of x.esc.took (along p.mark) (after text p), one_place)
+      one_is : rest_of text q (text_turn p n) ≡ before_read (x.code ∷ []) (quoted_run (quote_of q) chars_of 0 x.next.mark (chars (drop x.next.at text)))
+      one_is = escape_is t.is ∙ rw (← t.char, run_passing (quote_of q) chars_of t.esc.took (along p.mark) (after text p), one_place)
 
-      one_takes : record { text = c ∷ []; mode = chars_of; place = view text next } ≡ turn_of text q (text_turn p n)
+      one_takes : record { text = x.code ∷ []; mode = chars_of; place = view text x.next } ≡ turn_of text q (text_turn p n)
       unfolding mode_of
       one_takes =
-          rw (a.next, x.char, ← one_place)
+          rw (a.next, t.char, ← one_place)
           (take_escape (quote_of q) p.mark backslash (after text p) backslash_unblank.0 backslash_unblank.1 (not_quote _ u) (is_backslash _ u)
-          (breaks_no (breaks (after text p)) v) x.is)
+          (breaks_no (breaks (after text p)) v) t.is)
 
-      one_on : p.at + 2 ≤ next.at
-      one_on = let y = escape_passes q.start (after text p) x.esc x.is in omega (arith, x.at_is)
+      one_on : p.at + 2 ≤ x.next.at
+      one_on = let y = escape_passes q.start (after text p) t.esc t.is in omega (arith, t.at_is)
 
-    pub one_turns : {before out : List ℕ} {c k : ℕ} {next : Place} {r : Turned} → Escapes text p (answer.One c next) (escape q.start (after text p))
-        → out ≡ sets before n (char_bytes c) → k ≡ n + length (char_bytes c) → r ≡ Goes (text_turn next k) → Advances text q before out (text_turn p n) r
+    pub one_turns : {before out : List ℕ} {x : Escaped} {k : ℕ} {r : Result Turned Refusal} → Escapes text p (Ok x) (escape q.start (after text p))
+        → out ≡ sets before n (char_bytes x.code) → k ≡ n + length (char_bytes x.code) → r ≡ Ok (Goes (text_turn x.next k)) → Advances text q before out (text_turn p n) r
     unfolding mode_of encode
-    one_turns {c = c} {k} {next} w f g h =
-        let x = taken p (escape q.start (after text p)) c next w.same in
-        let o = (width_some c).1 in
-        let i = one_on x in
-        goes_on (c ∷ []) (text_turn next k) (one_takes x) (one_is x) (f ∙ rw (append-nil (char_bytes c))) (g ∙ rw (append-nil (char_bytes c)))
+    one_turns {x = x} {k} w f g h =
+        let t = taken p (escape q.start (after text p)) x w.same in
+        let o = (width_some x.code).1 in
+        let i = one_on t in
+        goes_on (x.code ∷ []) (text_turn x.next k) (one_takes t) (one_is t) (f ∙ rw (append-nil (char_bytes x.code))) (g ∙ rw (append-nil (char_bytes x.code)))
         (record { stands = w.ahead.1; short = s.short; kept = tt; few = omega (arith, s.few) })
         (omega arith) h
 
-    pub refused_turns : {before out : List ℕ} {k : ℕ} {x : Escape} {r : Turned} (f : Refusal) → x ≡ answer.Refused f
-        → Escapes text p x (escape q.start (after text p)) → k ≡ number_of x
-        → (r ≡ Ends (Refused (record { number = k; mark = q.start }))) × (out ≡ replicate (length before) 0) → Advances text q before out (text_turn p n) r
-    unfolding number_of
-    refused_turns {k = k} f e w g h =
-        let d = not_taken p (escape q.start (after text p)) f (sym e ∙ w.same) in
-        let i : k ≡ f.number = g ∙ rw e in
-        refused_at k q.start (escape_is d ∙ rw (i, escape_at_start q.start (after text p) f.number f.mark d)) h.0 h.1
+    pub refused_turns : (before : List ℕ) {f : Refusal} {r : Result Turned Refusal} → Escapes text p (Err f) (escape q.start (after text p)) → r ≡ Err f
+        → Advances text q before before (text_turn p n) r
+    refused_turns before {f} w h = refused_at f.number f.mark (escape_is (not_taken p (escape q.start (after text p)) w.same)) h refl

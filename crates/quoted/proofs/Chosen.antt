@@ -5,8 +5,11 @@ use mathlib.Core.List.{List, []}
 use mathlib.Core.Path.{◌∙◌, ◌≡◌, refl, sym}
 use native.Mathlib.Omega.{arith}
 use lib.Dec.{eqb}
-use lib.ListN.{drop, get_or, length, replicate}
+use lib.ListN.{drop, get_or}
+use Rattle.std.specs.Prelude.{⊤}
+use Rattle.std.proofs.Common.{Err, Ok, Result}
 use borrow.Author.Tests.{eqb-true, ne_eqb, not-true}
+use Rattle.yaml_text.specs.declared.Refusal.{Refusal}
 use Rattle.yaml_text.specs.Class.{is_blank, is_break}
 use Rattle.yaml_text.specs.Mark.{break_length}
 use Rattle.yaml_text.specs.Test.{both_true}
@@ -19,14 +22,12 @@ use Rattle.chars.specs.Bytes.{CharAt, ascii_at, eq_at, eq_char}
 use Rattle.gaps.specs.Breaks.{break_at}
 use Rattle.quoted.specs.declared.fold.Mode.{Mode}
 use Rattle.quoted.specs.declared.fold.Mode.TheVariants.{Blanks, Chars, Escaped, Folded, Joined}
-use Rattle.quoted.specs.declared.turns.End.TheVariants.{Refused}
 use Rattle.quoted.specs.declared.turns.Quote.{Quote}
 use Rattle.quoted.specs.declared.turns.Progress.{Progress}
 use Rattle.quoted.specs.declared.turns.Turned.{Turned}
-use Rattle.quoted.specs.declared.turns.Turned.TheVariants.{Ends}
-use Rattle.quoted.specs.Modes.{PutsKept, line_number, mode_of, owed}
+use Rattle.quoted.specs.Modes.{PutsKept, line_held, mode_of, owed}
 use Rattle.quoted.specs.Texts.{quote_by, special, text_char}
-use Rattle.quoted.specs.Advance.{Advances, Sound, TextAt, blank_turned, break_turned, quote_of, swept, text_turn}
+use Rattle.quoted.specs.Advance.{Advances, Sound, TextAt, blank_turned, break_turned, quote_of, text_turn}
 use Rattle.quoted.proofs.Kept.{text_right, text_wrong}
 use Rattle.quoted.proofs.Lines.{quote_at}
 use Rattle.quoted.proofs.Putting.{take_behind}
@@ -53,43 +54,42 @@ text_plain {s} {at} {b} single w e f g =
     rw (w.no_blank, w.no_break, q, k, and_comm (not single) (eqb b 92), g)
 
 -- 34: the end
-pub end_turns : {text : List ℕ} {q : Quote} {before after : List ℕ} {t : Progress} {r : Turned} → chars (drop t.place.at text) ≡ []
-    → r ≡ Ends (Refused (record { number = 34; mark = q.start })) → after ≡ replicate (length before) 0 → Advances text q before after t r
+pub end_turns : {text : List ℕ} {q : Quote} (before : List ℕ) {t : Progress} {r : Result Turned Refusal} → chars (drop t.place.at text) ≡ []
+    → r ≡ Err (record { number = 34; mark = q.start }) → Advances text q before before t r
 unfolding quoted_run
-end_turns {q = q} e f z = refused_at 34 q.start (rw e) f z
+end_turns {q = q} before e f = refused_at 34 q.start (rw e) f refl
 
-module _ {text : List ℕ} {q : Quote} {t : Progress} {r : Turned} where
+module _ {text : List ℕ} {q : Quote} {t : Progress} {r : Result Turned Refusal} where
   -- a blank
-  pub blank_chosen : {before after : List ℕ} {c n : ℕ} → Sound text t → CharAt text t.place.at c n → is_blank c ≡ true
-      → (r ≡ blank_turned q t c) × (after ≡ swept before r) → Advances text q before after t r
-  blank_chosen {c = c} {n = n} s a b f =
+  pub blank_chosen : (before : List ℕ) {c n : ℕ} → Sound text t → CharAt text t.place.at c n → is_blank c ≡ true
+      → r ≡ blank_turned q t c → Advances text q before before t r
+  blank_chosen before {c} {n} s a b f =
       let l : n ≡ 1 = (first_bytes (drop t.place.at text) c n a.is).1 ∙ rw (bytes1 c (ascii_low blank_ascii c b).1) in
-      blank_turns s (rw l at a) b f.0 f.1
+      blank_turns before s (rw l at a) b f
 
   -- a break
   pub break_chosen : (before : List ℕ) {c n : ℕ} → Sound text t → CharAt text t.place.at c n → is_break c ≡ true
-      → r ≡ break_turned (break_length (chars (drop t.place.at text))) t → Advances text q before before t r
+      → r ≡ Ok (break_turned (break_length (chars (drop t.place.at text))) t) → Advances text q before before t r
   break_chosen before {c} {n} s a b f =
       let at = t.place.at in
       let e : is_break (get_or text at 0) ≡ true = sym (ascii_at text at (get_or text at 0) refl break_ascii) ∙ rw a.next b in
       break_turns before s (break_at s.stands refl e refl) refl f
 
-  module _ (w : TextAt text t.place.at) {k : ℕ} (e : k ≡ line_number (quote_of q) t.mode t.place.mark (chars (drop t.place.at text))) where
+  module _ (w : TextAt text t.place.at) {k : Result ⊤ Refusal} (e : k ≡ line_held (quote_of q) t.mode t.place.mark (chars (drop t.place.at text))) where
     -- 33, 35
-    pub wrong_turns : {before after : List ℕ} → (k ≡ 0 → ⊥)
-        → (r ≡ Ends (Refused (record { number = k; mark = q.start }))) × (after ≡ replicate (length before) 0) → Advances text q before after t r
-    wrong_turns z f =
+    pub wrong_turns : (before : List ℕ) {f : Refusal} → k ≡ Err f → r ≡ Err f → Advances text q before before t r
+    wrong_turns before {f} z g =
         let at = t.place.at in
         let m = t.place.mark in
         let cs = chars (drop (at + w.len) text) in
-        refused_at k q.start
+        refused_at f.number f.mark
         (rw w.is.next
         (run_text (quote_of q) (mode_of text at t.mode) m w.char cs w.no_blank w.no_break
-        ∙ rw (text_wrong (quote_of q) m w.char cs text at t.mode k (rw w.is.next at e) z)))
-        f.0 f.1
+        ∙ rw (text_wrong (quote_of q) m w.char cs text at t.mode (sym z ∙ rw w.is.next at e))))
+        g refl
 
     -- text behind what was kept back
-    pub fold_turns : {before mid after : List ℕ} {n : ℕ} → k ≡ 0 → PutsKept text t.place.at t.mode t.count before mid n
+    pub fold_turns : {before mid after : List ℕ} {n : ℕ} → k ≡ Ok tt → PutsKept text t.place.at t.mode t.count before mid n
         → Advances text q mid after (text_turn t.place n) r → Advances text q before after t r
     unfolding mode_of
     fold_turns z f g =

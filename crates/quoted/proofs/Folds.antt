@@ -1,6 +1,7 @@
 -- What is stored for blanks and breaks before text.
 use Prim.Native.Nat.{◌+◌, ◌-◌, ◌≤◌, suc, ℕ}
 use mathlib.Core.List.{List}
+use mathlib.Core.Logic.{◌⊎◌, inl, inr}
 use mathlib.Core.Path.{◌∙◌, ◌≡◌, refl}
 use native.Mathlib.Omega.{arith}
 use lib.ListN.{length, length-drop, replicate}
@@ -16,13 +17,10 @@ use Rattle.quoted.specs.declared.fold.Mode.TheVariants.{Blanks, Chars, Escaped, 
 use Rattle.quoted.specs.Modes.{BlanksKept, PutsKept, mode_of}
 
 module _ {text : List ℕ} {at n : ℕ} {mode : Mode} where
-  pub kept_chars : (before : List ℕ) → mode ≡ Chars → PutsKept text at mode n before before n
+  pub kept_none : (before : List ℕ) → (mode ≡ Chars) ⊎ (mode ≡ Escaped) → PutsKept text at mode n before before n
   unfolding mode_of folds_to encode
-  kept_chars before e = rw e (record { puts = record { bytes = refl; next = omega arith }; few = omega arith })
-
-  pub kept_escaped : (before : List ℕ) → mode ≡ Escaped → PutsKept text at mode n before before n
-  unfolding mode_of folds_to encode
-  kept_escaped before e = rw e (record { puts = record { bytes = refl; next = omega arith }; few = omega arith })
+  kept_none before (inl e) = rw e (record { puts = record { bytes = refl; next = omega arith }; few = omega arith })
+  kept_none before (inr e) = rw e (record { puts = record { bytes = refl; next = omega arith }; few = omega arith })
 
   module _ {before after : List ℕ} where
     pub kept_blanks : {from : ℕ} → mode ≡ Blanks from → BlanksKept text at mode → at ≤ length text → after ≡ sets before n (part text from at)

@@ -6,6 +6,9 @@ use mathlib.Core.Path.{◌∙◌, ◌≡◌, refl}
 use native.Mathlib.Numerals.{add-one}
 use native.Mathlib.Omega.{arith}
 use lib.Dec.{eqb, ltb}
+use Rattle.std.specs.Prelude.{⊤}
+use Rattle.std.proofs.Common.{Err, Ok, Result}
+use Rattle.yaml_text.specs.declared.Refusal.{Refusal}
 use Rattle.yaml_text.specs.declared.Mark.{Mark}
 use Rattle.yaml_text.specs.Char.{tab}
 use Rattle.yaml_text.specs.Mark.{edge_of, is_marker}
@@ -19,7 +22,7 @@ use Rattle.chars.specs.Bytes.{CharAt}
 use Rattle.chars.specs.Parts.{part, part_more, part_none}
 use Rattle.quoted.specs.declared.fold.Mode.{Mode}
 use Rattle.quoted.specs.declared.fold.Mode.TheVariants.{Blanks, Chars, Escaped, Folded, Joined}
-use Rattle.quoted.specs.Modes.{BlanksKept, behind_break, blank_mode, break_mode, line_number, mode_of, owed}
+use Rattle.quoted.specs.Modes.{BlanksKept, behind_break, blank_mode, break_mode, line_held, mode_of, owed}
 
 -- behind the blank c of one byte
 module _ {text : List ℕ} {at c : ℕ} (a : CharAt text at c 1) (l : c < 128) where
@@ -83,41 +86,46 @@ module _ (text : List ℕ) (at next : ℕ) where
 
 -- where text follows
 module _ (q : Quote) (b : definition.Mode) (m : Mark) (c : ℕ) (cs : List ℕ) where
-  abbrev line_refusal : ℕ
-  line_refusal = pick (is_marker m (c ∷ cs)) 33 (pick (ltb (edge_of m) q.indent) 35 0)
+  abbrev line_told : Result ⊤ Refusal
+  line_told =
+      pick (is_marker m (c ∷ cs)) (Err (record { number = 33; mark = q.start }))
+      (pick (ltb (edge_of m) q.indent) (Err (record { number = 35; mark = q.start })) (Ok tt))
 
-  line_wrong : (k : ℕ) → k ≡ line_refusal → (k ≡ 0 → ⊥) → quoted_line q b m c cs ≡ wrong_quote k q.start
+  line_wrong : {f : Refusal} → Err f ≡ line_told → quoted_line q b m c cs ≡ wrong_quote f.number f.mark
   unfolding quoted_line
-  line_wrong k e z =
+  line_wrong {f} e =
       by_test (is_marker m (c ∷ cs))
-      (λ f. rw (e, f, quoted_line))
-      (λ f. by_test (ltb (edge_of m) q.indent)
-      (λ g. rw (e, f, g, quoted_line))
-      (λ g. absurd (z (e ∙ rw (f, g)))))
+      (λ t. let g : f ≡ record { number = 33; mark = q.start } = alike (e ∙ rw t) in rw (g, t, quoted_line))
+      (λ t. by_test (ltb (edge_of m) q.indent)
+      (λ u. let g : f ≡ record { number = 35; mark = q.start } = alike (e ∙ rw (t, u)) in rw (g, t, u, quoted_line))
+      (λ u. let g : ◌≡◌ {A = Result ⊤ Refusal} (Err f) (Ok tt) = e ∙ rw (t, u) in cc))
+    where
+      alike : {g : Refusal} → ◌≡◌ {A = Result ⊤ Refusal} (Err f) (Err g) → f ≡ g
+      alike h = cc
 
-  line_right : line_refusal ≡ 0 → quoted_line q b m c cs ≡ quoted_char q (folds_to b) c cs
+  line_right : line_told ≡ Ok tt → quoted_line q b m c cs ≡ quoted_char q (folds_to b) c cs
   unfolding quoted_line
   line_right e =
       by_test (is_marker m (c ∷ cs))
-      (λ f. let z : ◌≡◌ {A = ℕ} 33 0 = rw f at e in absurd (omega arith))
+      (λ f. let z : ◌≡◌ {A = Result ⊤ Refusal} (Err (record { number = 33; mark = q.start })) (Ok tt) = rw f at e in cc)
       (λ f. by_test (ltb (edge_of m) q.indent)
-      (λ g. let z : ◌≡◌ {A = ℕ} 35 0 = rw (f, g) at e in absurd (omega arith))
+      (λ g. let z : ◌≡◌ {A = Result ⊤ Refusal} (Err (record { number = 35; mark = q.start })) (Ok tt) = rw (f, g) at e in cc)
       (λ g. rw (f, g, quoted_line)))
 
 module _ (q : Quote) (m : Mark) (c : ℕ) (cs : List ℕ) (text : List ℕ) (at : ℕ) where
-  pub text_wrong : (mode : Mode) (k : ℕ) → k ≡ line_number q mode m (c ∷ cs) → (k ≡ 0 → ⊥) → quoted_text q (mode_of text at mode) m c cs ≡ wrong_quote k q.start
-  unfolding quoted_text mode_of line_number
-  text_wrong Chars k e z = absurd (z e)
-  text_wrong (Blanks from) k e z = line_wrong q _ m c cs k e z
-  text_wrong (Folded n) k e z = line_wrong q _ m c cs k e z
-  text_wrong Escaped k e z =
+  pub text_wrong : (mode : Mode) {f : Refusal} → Err f ≡ line_held q mode m (c ∷ cs) → quoted_text q (mode_of text at mode) m c cs ≡ wrong_quote f.number f.mark
+  unfolding quoted_text mode_of line_held
+  text_wrong Chars e = cc
+  text_wrong (Blanks from) e = line_wrong q _ m c cs e
+  text_wrong (Folded n) e = line_wrong q _ m c cs e
+  text_wrong Escaped {f} e =
       by_test (eqb c (quote_char q))
-      (λ f. absurd (z (e ∙ rw f)))
-      (λ f. rw (f, quoted_text) (line_wrong q _ m c cs k (e ∙ rw f) z))
-  text_wrong (Joined n) k e z = line_wrong q _ m c cs k e z
+      (λ t. let z : ◌≡◌ {A = Result ⊤ Refusal} (Err f) (Ok tt) = e ∙ rw t in cc)
+      (λ t. rw (t, quoted_text) (line_wrong q _ m c cs (e ∙ rw t)))
+  text_wrong (Joined n) e = line_wrong q _ m c cs e
 
-  pub text_right : (mode : Mode) → line_number q mode m (c ∷ cs) ≡ 0 → quoted_text q (mode_of text at mode) m c cs ≡ quoted_char q (folds_to (mode_of text at mode)) c cs
-  unfolding quoted_text mode_of line_number folds_to
+  pub text_right : (mode : Mode) → line_held q mode m (c ∷ cs) ≡ Ok tt → quoted_text q (mode_of text at mode) m c cs ≡ quoted_char q (folds_to (mode_of text at mode)) c cs
+  unfolding quoted_text mode_of line_held folds_to
   text_right Chars e = refl
   text_right (Blanks from) e = line_right q _ m c cs e
   text_right (Folded n) e = line_right q _ m c cs e

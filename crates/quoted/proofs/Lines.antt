@@ -2,7 +2,10 @@
 use Prim.Native.Nat.{◌<◌, ◌≤◌, ℕ}
 use mathlib.Core.Bool.{Bool, false, true}
 use mathlib.Core.List.{List}
-use mathlib.Core.Path.{◌≡◌, sym}
+use mathlib.Core.Path.{◌∙◌, ◌≡◌, sym}
+use Rattle.std.specs.Prelude.{⊤}
+use Rattle.std.proofs.Common.{Err, Ok, Result}
+use Rattle.yaml_text.specs.declared.Refusal.{Refusal}
 use lib.Dec.{eqb}
 use lib.ListN.{drop, get_or}
 use borrow.Author.Tests.{le-ltb, lt-ltb}
@@ -13,7 +16,7 @@ use Rattle.chars.specs.declared.mark.Place.{Place}
 use Rattle.chars.specs.Bytes.{eq_at}
 use Rattle.quoted.specs.declared.fold.Mode.{Mode}
 use Rattle.quoted.specs.declared.turns.Quote.{Quote}
-use Rattle.quoted.specs.Modes.{held_against, line_number}
+use Rattle.quoted.specs.Modes.{held_against, line_held}
 use Rattle.quoted.specs.Texts.{quote_by}
 use Rattle.quoted.specs.Advance.{quote_of}
 
@@ -22,28 +25,28 @@ pub quote_at : (s : List ℕ) (at b : ℕ) → b ≡ get_or s at 0 → (single :
 quote_at s at b e true = eq_at s at b e 39 tt
 quote_at s at b e false = eq_at s at b e 34 tt
 
-module _ (text : List ℕ) (q : Quote) (p : Place) (mode : Mode) {b k : ℕ} {h : Bool} (e : b ≡ get_or text p.at 0) (f : k ≡ quote_by q.single)
+module _ (text : List ℕ) (q : Quote) (p : Place) (mode : Mode) {b k : ℕ} {h : Bool} {r : Result ⊤ Refusal} (e : b ≡ get_or text p.at 0) (f : k ≡ quote_by q.single)
     (g : h ≡ held_against mode (eqb b k)) where
   held : held_against mode (eqb (peek (chars (drop p.at text)) 0) (quote_by q.single)) ≡ h
   held = rw (quote_at text p.at b e q.single, ← f) (sym g)
 
-  abbrev number : ℕ
-  number = line_number (quote_of q) mode p.mark (chars (drop p.at text))
+  abbrev told : Result ⊤ Refusal
+  told = line_held (quote_of q) mode p.mark (chars (drop p.at text))
 
-  pub number_free : h ≡ false → 0 ≡ number
-  unfolding line_number
-  number_free t = rw (held, t)
+  pub held_free : h ≡ false → Ok tt ≡ told
+  unfolding line_held
+  held_free t = rw (held, t)
 
   module _ (t : h ≡ true) where
-    pub number_marker : is_marker p.mark (chars (drop p.at text)) ≡ true → 33 ≡ number
-    unfolding line_number
-    number_marker u = rw (held, t, u)
+    pub held_marker : is_marker p.mark (chars (drop p.at text)) ≡ true → r ≡ Err (record { number = 33; mark = q.start }) → r ≡ told
+    unfolding line_held
+    held_marker u i = i ∙ rw (held, t, u)
 
     module _ (u : is_marker p.mark (chars (drop p.at text)) ≡ false) where
-      pub number_short : edge_of p.mark < q.indent → 35 ≡ number
-      unfolding line_number
-      number_short v = rw (held, t, u, lt-ltb (edge_of p.mark) q.indent v)
+      pub held_short : edge_of p.mark < q.indent → r ≡ Err (record { number = 35; mark = q.start }) → r ≡ told
+      unfolding line_held
+      held_short v i = i ∙ rw (held, t, u, lt-ltb (edge_of p.mark) q.indent v)
 
-      pub number_none : q.indent ≤ edge_of p.mark → 0 ≡ number
-      unfolding line_number
-      number_none v = rw (held, t, u, le-ltb (edge_of p.mark) q.indent v)
+      pub held_none : q.indent ≤ edge_of p.mark → Ok tt ≡ told
+      unfolding line_held
+      held_none v = rw (held, t, u, le-ltb (edge_of p.mark) q.indent v)

@@ -5,6 +5,8 @@ use mathlib.Core.List.{List, [], ◌∷◌}
 use mathlib.Core.Path.{◌∙◌, ◌≡◌, ap, refl}
 use native.Mathlib.Omega.{arith}
 use lib.Dec.{eqb, leb}
+use Rattle.std.proofs.Common.{Ok, Result}
+use Rattle.yaml_text.specs.declared.Refusal.{Refusal}
 use lib.ListN.{drop, get_or, length, length-append, length-drop, set}
 use lib.Seq.{length-take-le, sets}
 use borrow.Author.Tests.{eq-eqb, eqb-true, leb-true}
@@ -20,10 +22,9 @@ use Rattle.chars.specs.Bytes.{CharAt, eq_at, eq_char}
 use Rattle.chars.specs.Parts.{Spans, part}
 use Rattle.chars.specs.Places.{stands_along}
 use Rattle.chars.specs.View.{past}
-use Rattle.quoted.specs.declared.turns.End.TheVariants.{Closed}
 use Rattle.quoted.specs.declared.turns.Quote.{Quote}
 use Rattle.quoted.specs.declared.turns.Turned.{Turned}
-use Rattle.quoted.specs.declared.turns.Turned.TheVariants.{Ends, Goes}
+use Rattle.quoted.specs.declared.turns.Turned.TheVariants.{Closes, Goes}
 use Rattle.quoted.specs.Modes.{mode_of}
 use Rattle.quoted.specs.Texts.{Stretch, passing, quote_by, text_char, words}
 use Rattle.quoted.specs.Advance.{Advances, Sound, TextAt, quote_of, text_turn}
@@ -41,11 +42,11 @@ single_low : is_break single_quote ≡ false
 unfolding is_break
 single_low = refl
 
-module _ {text : List ℕ} {q : Quote} {p : Place} {n : ℕ} {r : Turned} (s : Sound text (text_turn p n)) where
+module _ {text : List ℕ} {q : Quote} {p : Place} {n : ℕ} {r : Result Turned Refusal} (s : Sound text (text_turn p n)) where
   module _ (a : CharAt text p.at (quote_by q.single) 1) (b : ℕ) (e : b ≡ get_or text (p.at + 1) 0) where
     -- a single one that stands twice
     pub pair_turns : {before after : List ℕ} → (q.single && eqb b 39) ≡ true → after ≡ set before n 39
-        → r ≡ Goes (text_turn (past p 2 (along_by 2 p.mark)) (n + 1)) → Advances text q before after (text_turn p n) r
+        → r ≡ Ok (Goes (text_turn (past p 2 (along_by 2 p.mark)) (n + 1))) → Advances text q before after (text_turn p n) r
     unfolding mode_of encode char_bytes
     pair_turns {before} {after} h f k =
         let u = quote_unblank q.single in
@@ -68,7 +69,7 @@ module _ {text : List ℕ} {q : Quote} {p : Place} {n : ℕ} {r : Turned} (s : S
         (record { stands = stands_along s.stands 2 2 (omega arith) (omega (arith, d.within)); short = s.short; kept = tt; few = omega (arith, s.few) })
         (omega arith) k
 
-    pub close_turns : (before : List ℕ) → (q.single && eqb b 39) ≡ false → r ≡ Ends (Closed n (past p 1 (along p.mark)))
+    pub close_turns : (before : List ℕ) → (q.single && eqb b 39) ≡ false → r ≡ Ok (Closes (record { count = n; place = past p 1 (along p.mark) }))
         → Advances text q before before (text_turn p n) r
     unfolding mode_of
     close_turns before h k =
@@ -84,7 +85,7 @@ module _ {text : List ℕ} {q : Quote} {p : Place} {n : ℕ} {r : Turned} (s : S
   -- a run of text
   pub run_turns : {before after : List ℕ} {e : Place} (i : TextAt text p.at) → text_char q.single i.char ≡ true
       → Spans text p e (words (leb q.indent (edge_of p.mark)) q.single p.mark (chars (drop p.at text)))
-      → after ≡ sets before n (part text p.at e.at) → r ≡ Goes (text_turn e (n + (e.at - p.at))) → Advances text q before after (text_turn p n) r
+      → after ≡ sets before n (part text p.at e.at) → r ≡ Ok (Goes (text_turn e (n + (e.at - p.at)))) → Advances text q before after (text_turn p n) r
   unfolding mode_of encode
   run_turns {before} {after} {e} i t w f k =
       let m = p.mark in

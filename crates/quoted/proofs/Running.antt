@@ -5,20 +5,21 @@ use mathlib.Core.Path.{◌∙◌, ◌≡◌, ap, refl}
 use native.Mathlib.Omega.{arith}
 use lib.ListN.{drop, length}
 use lib.Seq.{length-sets}
+use Rattle.std.proofs.Common.{Err, Ok, Result}
+use Rattle.yaml_text.specs.declared.Refusal.{Refusal}
 use Rattle.yaml_text.specs.Mark.{along}
 use Rattle.yaml_text.specs.Utf8.{chars, encode}
 use Rattle.yaml_lexeme.specs.Quoted.{chars_of, quoted_run}
 use Rattle.chars.specs.Places.{stands_along}
 use Rattle.chars.specs.View.{Stands, past}
+use Rattle.reading.specs.declared.Written.{Written}
 use Rattle.reading.specs.Reading.{first_at}
-use Rattle.quoted.specs.declared.turns.End.{End}
-use Rattle.quoted.specs.declared.turns.End.TheVariants.{Closed, Refused}
 use Rattle.quoted.specs.declared.turns.Quote.{Quote}
 use Rattle.quoted.specs.declared.turns.Progress.{Progress}
 use Rattle.quoted.specs.declared.turns.Turned.{Turned}
-use Rattle.quoted.specs.declared.turns.Turned.TheVariants.{Ends, Goes}
+use Rattle.quoted.specs.declared.turns.Turned.TheVariants.{Closes, Goes}
 use Rattle.quoted.specs.Modes.{mode_of}
-use Rattle.quoted.specs.Advance.{Advances, ClosedBehind, EndLeaves, TurnLeaves, RunEnds, Sound, led_to, quote_of, text_turn, to_write, turn_of, written}
+use Rattle.quoted.specs.Advance.{Advances, RunEnds, Sound, ended, led_to, quote_of, text_turn, to_write, turn_of, written}
 
 pub record Running (text : List ℕ) (q : Quote) (before out : List ℕ) (t : Progress) : Type 0 where
   pub sound : Sound text t
@@ -36,23 +37,25 @@ running_start before s h e =
       whole = refl;
     })
 
-behind_from : (text : List ℕ) (at : ℕ) (e : End) → ClosedBehind text at e → ClosedBehind text 0 e
-behind_from text at (Closed n p) h = (h.0, omega (arith, h.1), h.2)
-behind_from text at (Refused f) h = tt
-
-end_leaves : (before out next : List ℕ) (n : ℕ) (t : List ℕ) (e : End) → length out ≡ length before → TurnLeaves out n next t (Ends e) → EndLeaves before next e
-end_leaves before out next n t (Closed k p) l h = ap length h.bytes ∙ length-sets out n (encode t) ∙ l
-end_leaves before out next n t (Refused f) l h = h ∙ rw l
-
-module _ {text : List ℕ} {q : Quote} {before out next : List ℕ} {t : Progress} {r : Turned} (w : Running text q before out t) (h : Advances text q out next t r) where
-  pub running_more : {u : Progress} → r ≡ Goes u → length next ≡ length out → Running text q before next u
+module _ {text : List ℕ} {q : Quote} {before out next : List ℕ} {t : Progress} {r : Result Turned Refusal} (w : Running text q before out t) (h : Advances text q out next t r) where
+  pub running_more : {u : Progress} → r ≡ Ok (Goes u) → length next ≡ length out → Running text q before next u
   unfolding led_to
   running_more e l = let k = rw e at h in record { sound = k.onward.0; same = l ∙ w.same; whole = w.whole ∙ k.same }
 
   -- each turn reads a byte
-  pub running_less : {u : Progress} → r ≡ Goes u → (t.place.at < u.place.at) × (u.place.at ≤ length text)
+  pub running_less : {u : Progress} → r ≡ Ok (Goes u) → (t.place.at < u.place.at) × (u.place.at ≤ length text)
   running_less e = let k = rw e at h in (k.onward.1, k.onward.0.stands.within)
 
-  pub running_done : {e : End} → r ≡ Ends e → RunEnds text q before next e
+  pub running_closed : {u : Written} → r ≡ Ok (Closes u) → RunEnds text q before next (Ok u)
   unfolding led_to
-  running_done {e} f = let k = rw f at h in record { same = w.whole ∙ k.same; leaves = end_leaves before out next t.count (turn_of text q t).text e w.same k.leaves; behind = behind_from text t.place.at e k.onward }
+  running_closed e =
+      let k = rw e at h in
+      record {
+        same = w.whole ∙ k.same;
+        kept = ap length k.leaves.bytes ∙ length-sets out t.count (encode (turn_of text q t).text) ∙ w.same;
+        behind = record { stands = k.onward.stands; onward = omega (arith, k.onward.onward); few = k.onward.few };
+      }
+
+  pub running_refused : {f : Refusal} → r ≡ Err f → RunEnds text q before next (Err f)
+  unfolding led_to ended
+  running_refused e = let k = rw e at h in record { same = w.whole ∙ k.same; kept = k.leaves ∙ w.same; behind = tt }

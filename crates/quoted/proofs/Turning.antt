@@ -5,9 +5,11 @@ use mathlib.Core.List.{List, [], ◌++◌}
 use mathlib.Core.Path.{◌∙◌, ◌≡◌, ap, refl, sym}
 use native.Mathlib.Omega.{arith}
 use lib.Dec.{eqb, ltb}
-use lib.ListN.{drop, length, length-append, replicate}
+use lib.ListN.{drop, length, length-append}
 use lib.Seq.{length-sets, sets}
+use Rattle.std.proofs.Common.{Err, Ok, Result}
 use Rattle.yaml_text.specs.declared.Mark.{Mark}
+use Rattle.yaml_text.specs.declared.Refusal.{Refusal}
 use Rattle.yaml_text.specs.Char.{tab}
 use Rattle.yaml_text.specs.Class.{is_blank}
 use Rattle.yaml_text.specs.Mark.{Run, along, break_length, edge_of, new_line}
@@ -25,14 +27,13 @@ use Rattle.chars.specs.Places.{stands_along}
 use Rattle.chars.specs.View.{Stands, past, view}
 use Rattle.gaps.specs.Breaks.{BreakAt}
 use Rattle.reading.specs.Puts.{Puts, puts_then}
-use Rattle.quoted.specs.declared.turns.End.TheVariants.{Closed, Refused}
 use Rattle.quoted.specs.declared.turns.Quote.{Quote}
 use Rattle.quoted.specs.declared.turns.Progress.{Progress}
 use Rattle.quoted.specs.declared.turns.Turned.{Turned}
-use Rattle.quoted.specs.declared.turns.Turned.TheVariants.{Ends, Goes}
+use Rattle.quoted.specs.declared.turns.Turned.TheVariants.{Closes, Goes}
 use Rattle.quoted.specs.Modes.{behind_break, blank_mode, break_mode, mode_of}
 use Rattle.quoted.specs.Texts.{Stretch, before_stretch, passing}
-use Rattle.quoted.specs.Advance.{Advances, Leads, TurnLeaves, Sound, blank_turned, break_turned, ended, led_to, quote_of, rest_of, swept, turn_of, written}
+use Rattle.quoted.specs.Advance.{Advances, Leads, TurnLeaves, Sound, blank_turned, break_turned, ended, led_to, quote_of, rest_of, turn_of, written}
 use Rattle.quoted.proofs.Kept.{blank_is, blank_kept, blank_owed, break_is, break_kept, break_owed}
 use Rattle.quoted.proofs.Putting.{take_blank, take_break}
 use Rattle.quoted.proofs.Runs.{before_none, run_blank, run_break}
@@ -45,10 +46,10 @@ written_before out n t (got r) =
     rw (encode_append t r.text, ← (sets_join (encode t) (encode r.text) out n), length-append (encode t) (encode r.text), k)
 written_before out n t (refused k m) = refl
 
-module _ {text : List ℕ} {q : Quote} {before after : List ℕ} {t : Progress} {r : Turned} where
+module _ {text : List ℕ} {q : Quote} {before after : List ℕ} {t : Progress} {r : Result Turned Refusal} where
   -- on to the state u, behind the text w
   pub goes_on : (w : List ℕ) (u : Progress) → record { text = w; mode = mode_of text u.place.at u.mode; place = view text u.place } ≡ turn_of text q t → rest_of text q t ≡ before_read w (rest_of text q u) → after ≡ sets before t.count (encode w)
-      → u.count ≡ t.count + length (encode w) → Sound text u → t.place.at < u.place.at → r ≡ Goes u → Advances text q before after t r
+      → u.count ≡ t.count + length (encode w) → Sound text u → t.place.at < u.place.at → r ≡ Ok (Goes u) → Advances text q before after t r
   unfolding led_to
   goes_on w u i e f g s h k =
       rw k
@@ -59,31 +60,32 @@ module _ {text : List ℕ} {q : Quote} {before after : List ℕ} {t : Progress} 
         onward = (s, h);
       })
 
-  pub refused_at : (n : ℕ) (m : Mark) → rest_of text q t ≡ refused n m → r ≡ Ends (Refused (record { number = n; mark = m }))
-      → after ≡ replicate (length before) 0 → Advances text q before after t r
+  pub refused_at : (n : ℕ) (m : Mark) → rest_of text q t ≡ refused n m → r ≡ Err (record { number = n; mark = m })
+      → length after ≡ length before → Advances text q before after t r
   unfolding led_to ended written
   refused_at n m e k z = rw k (record { same = rw e; leaves = z; leads = tt; onward = tt })
 
-pub closed_at : {text : List ℕ} {q : Quote} {t : Progress} {r : Turned} (before : List ℕ) {p : Place} → [] ≡ (turn_of text q t).text
+pub closed_at : {text : List ℕ} {q : Quote} {t : Progress} {r : Result Turned Refusal} (before : List ℕ) {p : Place} → [] ≡ (turn_of text q t).text
     → rest_of text q t ≡ got (record { text = []; place = view text p }) → Stands text p → t.place.at < p.at → t.count ≤ 3 * p.at
-    → r ≡ Ends (Closed t.count p) → Advances text q before before t r
+    → r ≡ Ok (Closes (record { count = t.count; place = p })) → Advances text q before before t r
 unfolding led_to ended written encode
 closed_at {t = t} before i e s h l k =
     let z : t.count + 0 ≡ t.count = omega arith in
-    rw k (record { same = rw (e, z); leaves = rw (← i) (record { bytes = refl; next = omega arith }); leads = tt; onward = (s, h, l) })
+    rw k (record { same = rw (e, z); leaves = rw (← i) (record { bytes = refl; next = omega arith }); leads = tt; onward = record { stands = s; onward = h; few = l } })
 
 -- what was kept back is written first, on the spot
-leaves_from : {before mid : List ℕ} {n k : ℕ} {w : List ℕ} (after t : List ℕ) (r : Turned) → Puts before n mid k w → TurnLeaves mid k after t r
+leaves_from : {before mid : List ℕ} {n k : ℕ} {w : List ℕ} (after t : List ℕ) (r : Result Turned Refusal) → Puts before n mid k w → TurnLeaves mid k after t r
     → TurnLeaves before n after (w ++ t) r
-leaves_from after t (Goes u) p h = puts_then p h
-leaves_from after t (Ends (Closed k e)) p h = puts_then p h
-leaves_from {before} {n = n} {w = w} after t (Ends (Refused f)) p h = let l = ap length p.bytes ∙ length-sets before n (encode w) in h ∙ rw l
+leaves_from after t (Ok (Goes u)) p h = puts_then p h
+leaves_from after t (Ok (Closes u)) p h = puts_then p h
+leaves_from {before} {n = n} {w = w} after t (Err f) p h = h ∙ ap length p.bytes ∙ length-sets before n (encode w)
 
-leads_from : (text w : List ℕ) (d : Stretch) (r : Turned) → Leads text d r → Leads text (before_stretch w d) r
-leads_from text w d (Goes u) h = h
-leads_from text w d (Ends e) h = tt
+leads_from : (text w : List ℕ) (d : Stretch) (r : Result Turned Refusal) → Leads text d r → Leads text (before_stretch w d) r
+leads_from text w d (Ok (Goes u)) h = h
+leads_from text w d (Ok (Closes u)) h = tt
+leads_from text w d (Err f) h = tt
 
-pub turns_from : {text : List ℕ} {q : Quote} {before mid after : List ℕ} {t u : Progress} {r : Turned} (w : List ℕ) → turn_of text q t ≡ before_stretch w (turn_of text q u)
+pub turns_from : {text : List ℕ} {q : Quote} {before mid after : List ℕ} {t u : Progress} {r : Result Turned Refusal} (w : List ℕ) → turn_of text q t ≡ before_stretch w (turn_of text q u)
     → rest_of text q t ≡ before_read w (rest_of text q u) → Puts before t.count mid u.count w → u.place.at ≡ t.place.at → Advances text q mid after u r
     → Advances text q before after t r
 turns_from {text} {q} {before} {after = after} {t} {u} {r} w i e f h k =
@@ -95,10 +97,10 @@ turns_from {text} {q} {before} {after = after} {t} {u} {r} w i e f h k =
     }
 
 -- over a blank
-pub blank_turns : {text : List ℕ} {q : Quote} {t : Progress} {r : Turned} {before after : List ℕ} {c : ℕ} → Sound text t → CharAt text t.place.at c 1
-    → is_blank c ≡ true → r ≡ blank_turned q t c → after ≡ swept before r → Advances text q before after t r
-unfolding encode swept passing
-blank_turns {text} {q} {t} {r} {before} {after} {c} s a b k z =
+pub blank_turns : {text : List ℕ} {q : Quote} {t : Progress} {r : Result Turned Refusal} (before : List ℕ) {c : ℕ} → Sound text t → CharAt text t.place.at c 1
+    → is_blank c ≡ true → r ≡ blank_turned q t c → Advances text q before before t r
+unfolding encode passing
+blank_turns {text} {q} {t} {r} before {c} s a b k =
     let l = (ascii_low blank_ascii c b).1 in
     let at = t.place.at in
     let m = t.place.mark in
@@ -106,10 +108,10 @@ blank_turns {text} {q} {t} {r} {before} {after} {c} s a b k z =
     let f = blank_is a l (quote_of q) m t.mode s.kept in
     let o = blank_owed text at t.mode s.kept in
     by_test (behind_break t.mode && eqb c tab && ltb (edge_of m) q.indent)
-    (λ h. refused_at 36 m (rw a.next (e ∙ rw (f, h))) (k ∙ rw h) (z ∙ rw (k, h)))
+    (λ h. refused_at 36 m (rw a.next (e ∙ rw (f, h))) (k ∙ rw h) refl)
     (λ h. goes_on [] (record { place = past t.place 1 (along m); mode = blank_mode at t.mode; count = t.count })
     (rw (a.next, ← (take_blank (quote_of q) (mode_of text at t.mode) m c (chars (drop (at + 1) text)) b), f, h))
-    (rw a.next (e ∙ rw (f, h))) (z ∙ rw (k, h)) (omega arith)
+    (rw a.next (e ∙ rw (f, h))) refl (omega arith)
     (record {
       stands = stands_along s.stands 1 1 (omega arith) a.within;
       short = s.short;
@@ -119,8 +121,8 @@ blank_turns {text} {q} {t} {r} {before} {after} {c} s a b k z =
     (omega arith) (k ∙ rw h))
 
 -- over a break
-pub break_turns : {text : List ℕ} {q : Quote} {t : Progress} {r : Turned} (before : List ℕ) {n : ℕ} → Sound text t → BreakAt text t.place n → n ≡ break_length (chars (drop t.place.at text))
-    → r ≡ break_turned n t → Advances text q before before t r
+pub break_turns : {text : List ℕ} {q : Quote} {t : Progress} {r : Result Turned Refusal} (before : List ℕ) {n : ℕ} → Sound text t → BreakAt text t.place n → n ≡ break_length (chars (drop t.place.at text))
+    → r ≡ Ok (break_turned n t) → Advances text q before before t r
 unfolding encode
 break_turns {text} {q} {t} {r} before {n} s a e k =
     let p = t.place in

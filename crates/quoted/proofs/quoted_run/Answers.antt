@@ -1,23 +1,27 @@
 -- What is left to write from a turn on is the whole text; each turn reads a byte.
-use mathlib.Core.Path.{◌∙◌}
+use mathlib.Core.Path.{◌∙◌, ap, refl}
 use native.Mathlib.Omega.{arith}
-use Rattle.quoted.proofs.Running.{running_done, running_less, running_more, running_start}
+use Rattle.std.proofs.Common.{Ok}
+use Rattle.std.proofs.lemmas.Result.{err_from_is_err_and}
+use Rattle.quoted.proofs.Running.{running_closed, running_less, running_more, running_refused, running_start}
 use Rattle.quoted.proofs.quoted_run.Goals as goal
 
 pub loop-next-init : goal.loop-next-init
-loop-next-init c = running_start _ c.requires.0 c.requires.1 (rw c.skip_blank.ensures)
+loop-next-init c = running_start _ c.requires.0 c.requires.1 (rw (c.skip_blank.ensures, c.first_at-first.ensures))
 
-pub quoted_turn-r-requires : goal.quoted_turn-r-requires
-quoted_turn-r-requires c = c.loop-next.invariant.sound
+pub quoted_turn-requires : goal.quoted_turn-requires
+quoted_turn-requires c = c.loop-next.invariant.sound
 
 pub loop-next-smaller : goal.loop-next-smaller
-loop-next-smaller c = let l = running_less c.loop-next.invariant c.quoted_turn-r.ensures c.in-Goes.is in omega (arith, l)
+loop-next-smaller c = let l = running_less c.loop-next.invariant c.quoted_turn.ensures (c.in_ok-quoted_turn.was ∙ ap Ok c.in-Goes.is) in omega (arith, l)
 
 pub loop-next-preserved : goal.loop-next-preserved
-loop-next-preserved c = running_more c.loop-next.invariant c.quoted_turn-r.ensures c.in-Goes.is c.quoted_turn-r.auto.out
+loop-next-preserved c = running_more c.loop-next.invariant c.quoted_turn.ensures (c.in_ok-quoted_turn.was ∙ ap Ok c.in-Goes.is) c.quoted_turn.auto.out
 
-pub shape_of-out-in-Ends : goal.shape_of-out-in-Ends
-shape_of-out-in-Ends c = c.quoted_turn-r.auto.out ∙ c.loop-next.invariant.same
+pub returns-in-Closes : goal.returns-in-Closes
+returns-in-Closes c = running_closed c.loop-next.invariant c.quoted_turn.ensures (c.in_ok-quoted_turn.was ∙ ap Ok c.in-Closes.is)
 
-pub returns-in-Ends : goal.returns-in-Ends
-returns-in-Ends c = running_done c.loop-next.invariant c.quoted_turn-r.ensures c.in-Ends.is
+pub returns-in_err-quoted_turn : goal.returns-in_err-quoted_turn
+returns-in_err-quoted_turn c =
+    let p = err_from_is_err_and c.from_residual.result c.from_residual.ensures.1 in
+    rw (p.1, p.2) (running_refused c.loop-next.invariant c.in_err-quoted_turn.ensures refl)

@@ -1,6 +1,6 @@
 -- One law of what is kept back for each mode.
 use native.Mathlib.Omega.{arith}
-use Rattle.quoted.proofs.Folds.{kept_blanks, kept_chars, kept_escaped, kept_folded, kept_joined}
+use Rattle.quoted.proofs.Folds.{kept_blanks, kept_folded, kept_joined, kept_none}
 use Rattle.quoted.proofs.fold.put_kept.Goals as goal
 
 pub slice_bounds-copy-count : goal.slice_bounds-copy-count
@@ -13,16 +13,13 @@ pub overflow_sub-result : goal.overflow_sub-result
 overflow_sub-result c = let h = rw c.in-Blanks.is at c.requires.0 in omega (arith, h.0)
 
 pub returns-in-Chars : goal.returns-in-Chars
-returns-in-Chars c = kept_chars _ c.in-Chars.is
+returns-in-Chars c = kept_none _ c.in-Chars.is
 
 pub returns-in-Blanks : goal.returns-in-Blanks
 returns-in-Blanks c = kept_blanks c.in-Blanks.is c.requires.0 c.requires.1 c.copy.ensures
 
 pub returns-in-Folded : goal.returns-in-Folded
 returns-in-Folded c = kept_folded c.in-Folded.is c.put_fold.ensures
-
-pub returns-in-Escaped : goal.returns-in-Escaped
-returns-in-Escaped c = kept_escaped _ c.in-Escaped.is
 
 pub returns-in-Joined : goal.returns-in-Joined
 returns-in-Joined c = kept_joined c.in-Joined.is c.put_breaks.ensures

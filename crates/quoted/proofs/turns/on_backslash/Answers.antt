@@ -1,6 +1,8 @@
--- An escaped break, an escape that is written, or one that is refused, which clears the room.
-use mathlib.Core.Path.{◌∙◌}
+-- An escaped break, an escape that is written, or one that is refused.
+use mathlib.Core.Path.{◌∙◌, ap, refl}
 use native.Mathlib.Omega.{arith}
+use Rattle.std.proofs.Common.{Ok}
+use Rattle.std.proofs.lemmas.Result.{err_from_is_err_and}
 use Rattle.chars.specs.Lines.{break_few}
 use Rattle.chars.specs.Places.{small, stands_along}
 use Rattle.quoted.proofs.Backslash.{joined_turns, one_turns, refused_turns}
@@ -11,15 +13,19 @@ pub skip_linebreak-requires : goal.skip_linebreak-requires
 skip_linebreak-requires c = (rw c.skip_blank-e.ensures (small (stands_along c.requires.0.stands 1 1 (omega arith) c.requires.1.within) (search rules)), rw c.break_length-k.ensures (break_few _))
 
 pub returns-then-k-gt0 : goal.returns-then-k-gt0
-returns-then-k-gt0 c = joined_turns _ c.requires.0 c.requires.1 c.requires.2 _ c.break_length-k.ensures c.if-k-gt0.true (c.goes.ensures ∙ rw (c.skip_linebreak.ensures, c.skip_blank-e.ensures))
+returns-then-k-gt0 c =
+    joined_turns _ c.requires.0 c.requires.1 c.requires.2 _ c.break_length-k.ensures c.if-k-gt0.true
+    (ap Ok (c.goes.ensures ∙ rw (c.skip_linebreak.ensures, c.skip_blank-e.ensures)))
 
-pub returns-in_default : goal.returns-in_default
-returns-in_default c =
-    refused_turns _ c.requires.0 c.requires.1 c.requires.2 (rw c.break_length-k.ensures at c.if-k-gt0.false) _ c.in_default.is c.escape-e.ensures
-    c.refusal_number.ensures c.wrong.ensures
+pub returns-in_err-e : goal.returns-in_err-e
+returns-in_err-e c =
+    let p = err_from_is_err_and c.from_residual.result c.from_residual.ensures.1 in
+    rw (p.1, p.2) (refused_turns c.requires.0 c.requires.1 c.requires.2 (rw c.break_length-k.ensures at c.if-k-gt0.false) _ c.in_err-e.ensures refl)
 
 pub put_char-m-requires : goal.put_char-m-requires
-put_char-m-requires c = (omega (arith, c.requires.0), (rw c.in-One.is at c.escape-e.ensures.ahead).0)
+put_char-m-requires c = (omega (arith, c.requires.0), c.in_ok-e.ensures.ahead.0)
 
 pub returns : goal.returns
-returns c = one_turns _ c.requires.0 c.requires.1 c.requires.2 (rw c.break_length-k.ensures at c.if-k-gt0.false) (rw c.in-One.is at c.escape-e.ensures) c.put_char-m.ensures.0 c.put_char-m.ensures.1 c.goes-2.ensures
+returns c =
+    one_turns _ c.requires.0 c.requires.1 c.requires.2 (rw c.break_length-k.ensures at c.if-k-gt0.false) c.in_ok-e.ensures c.put_char-m.ensures.0 c.put_char-m.ensures.1
+    (ap Ok c.goes-2.ensures)

@@ -1,5 +1,6 @@
 -- The byte there tells whether it is a quote, a backslash or text that stands for itself.
-use mathlib.Core.Path.{◌∙◌, sym}
+use mathlib.Core.Path.{◌∙◌, ap, sym}
+use Rattle.std.proofs.Common.{Ok}
 use Rattle.quoted.proofs.Chosen.{backslash_there, quote_there, text_plain}
 use Rattle.quoted.proofs.Quotes.{run_turns}
 use Rattle.quoted.proofs.turns.on_char.Goals as goal
@@ -15,4 +16,4 @@ returns c =
     let q = c.args.q in
     run_turns c.requires.0 c.requires.1
     (text_plain q.single c.requires.1 c.byte-c.ensures (λ x. c.if-c-quote_char.false (x ∙ sym c.quote_char.ensures)) c.if-c-q.false)
-    c.text_end-e.ensures c.copy.ensures c.goes.ensures
+    c.text_end-e.ensures c.copy.ensures (ap Ok c.goes.ensures)

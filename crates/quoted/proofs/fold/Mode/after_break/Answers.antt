@@ -1,7 +1,12 @@
 -- One clause of the definition for each mode.
+use Prim.Native.Nat.{ℕ}
+use mathlib.Core.Logic.{◌⊎◌, inl, inr}
+use mathlib.Core.Path.{◌≡◌}
 use native.Mathlib.Omega.{arith}
+use Rattle.quoted.specs.declared.fold.Mode.{Mode}
+use Rattle.quoted.specs.declared.fold.Mode.TheVariants.{Blanks, Chars, Folded}
 use Rattle.quoted.specs.Modes.{break_mode}
-use Rattle.quoted.proofs.fold.after_break.Goals as goal
+use Rattle.quoted.proofs.fold.Mode.after_break.Goals as goal
 
 pub overflow_add-result : goal.overflow_add-result
 overflow_add-result c = let h = rw c.in-Folded.is at c.requires in omega arith
@@ -9,13 +14,14 @@ overflow_add-result c = let h = rw c.in-Folded.is at c.requires in omega arith
 pub overflow_add-result-in-Joined : goal.overflow_add-result-in-Joined
 overflow_add-result-in-Joined c = let h = rw c.in-Joined.is at c.requires in omega arith
 
-pub returns-in-Chars : goal.returns-in-Chars
+-- behind text or blanks
+begins : (mode : Mode) → (mode ≡ Chars) ⊎ ((from : ℕ) × mode ≡ Blanks from) → Folded 0 ≡ break_mode mode
 unfolding break_mode
-returns-in-Chars c = rw c.in-Chars.is
+begins mode (inl e) = rw e
+begins mode (inr (from, e)) = rw e
 
-pub returns-in-Blanks : goal.returns-in-Blanks
-unfolding break_mode
-returns-in-Blanks c = rw c.in-Blanks.is
+pub returns-in-Chars : goal.returns-in-Chars
+returns-in-Chars c = begins _ c.in-Chars.is
 
 pub returns-in-Folded : goal.returns-in-Folded
 unfolding break_mode
