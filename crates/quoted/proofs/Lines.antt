@@ -25,7 +25,7 @@ pub quote_at : (s : List ℕ) (at b : ℕ) → b ≡ get_or s at 0 → (single :
 quote_at s at b e true = eq_at s at b e 39 tt
 quote_at s at b e false = eq_at s at b e 34 tt
 
-module _ (text : List ℕ) (q : Quote) (p : Place) (mode : Mode) {b k : ℕ} {h : Bool} {r : Result ⊤ Refusal} (e : b ≡ get_or text p.at 0) (f : k ≡ quote_by q.single)
+module _ (text : List ℕ) (q : Quote) (p : Place) (mode : Mode) {b k : ℕ} {h : Bool} (e : b ≡ get_or text p.at 0) (f : k ≡ quote_by q.single)
     (g : h ≡ held_against mode (eqb b k)) where
   held : held_against mode (eqb (peek (chars (drop p.at text)) 0) (quote_by q.single)) ≡ h
   held = rw (quote_at text p.at b e q.single, ← f) (sym g)
@@ -38,12 +38,12 @@ module _ (text : List ℕ) (q : Quote) (p : Place) (mode : Mode) {b k : ℕ} {h 
   held_free t = rw (held, t)
 
   module _ (t : h ≡ true) where
-    pub held_marker : is_marker p.mark (chars (drop p.at text)) ≡ true → r ≡ Err (record { number = 33; mark = q.start }) → r ≡ told
+    pub held_marker : {r : Result ⊤ Refusal} → is_marker p.mark (chars (drop p.at text)) ≡ true → r ≡ Err (record { number = 33; mark = q.start }) → r ≡ told
     unfolding line_held
     held_marker u i = i ∙ rw (held, t, u)
 
     module _ (u : is_marker p.mark (chars (drop p.at text)) ≡ false) where
-      pub held_short : edge_of p.mark < q.indent → r ≡ Err (record { number = 35; mark = q.start }) → r ≡ told
+      pub held_short : {r : Result ⊤ Refusal} → edge_of p.mark < q.indent → r ≡ Err (record { number = 35; mark = q.start }) → r ≡ told
       unfolding line_held
       held_short v i = i ∙ rw (held, t, u, lt-ltb (edge_of p.mark) q.indent v)
 

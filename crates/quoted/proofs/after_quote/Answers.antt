@@ -6,7 +6,7 @@ use Rattle.quoted.proofs.Finish.{follows_got, follows_stuck, follows_wrong}
 use Rattle.quoted.proofs.after_quote.Goals as goal
 
 pub returns : goal.returns
-returns c = follows_got _ _ _ _ c.blanks_and_comment.ensures c.in_ok-e.was c.look.ensures c.fits_after.ensures c.if-not-fits_after.false c.requires.1 c.requires.2 (ap Ok (c.new.ensures ∙ rw (c.pick.ensures, c.text_at.ensures)))
+returns c = follows_got _ _ _ _ c.in_ok-e.ensures refl c.look.ensures c.fits_after.ensures c.if-not-fits_after.false c.requires.1 c.requires.2 (ap Ok (c.new.ensures ∙ rw (c.pick.ensures, c.text_at.ensures)))
 
 pub returns-in_err-e : goal.returns-in_err-e
 returns-in_err-e c =
@@ -14,4 +14,4 @@ returns-in_err-e c =
     rw (p.1, p.2) (follows_stuck c.args.flow c.args.q c.args.used c.args.w.count c.in_err-e.ensures refl refl)
 
 pub returns-then-not-fits_after : goal.returns-then-not-fits_after
-returns-then-not-fits_after c = follows_wrong _ _ _ _ c.blanks_and_comment.ensures c.in_ok-e.was c.look.ensures c.fits_after.ensures c.if-not-fits_after.true c.refuse.ensures
+returns-then-not-fits_after c = follows_wrong _ _ _ _ c.in_ok-e.ensures refl c.look.ensures c.fits_after.ensures c.if-not-fits_after.true c.refuse.ensures

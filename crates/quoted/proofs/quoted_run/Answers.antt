@@ -1,5 +1,5 @@
 -- What is left to write from a turn on is the whole text; each turn reads a byte.
-use mathlib.Core.Path.{◌∙◌, ap, refl}
+use mathlib.Core.Path.{ap, refl}
 use native.Mathlib.Omega.{arith}
 use Rattle.std.proofs.Common.{Ok}
 use Rattle.std.proofs.lemmas.Result.{err_from_is_err_and}
@@ -13,15 +13,15 @@ pub quoted_turn-requires : goal.quoted_turn-requires
 quoted_turn-requires c = c.loop-next.invariant.sound
 
 pub loop-next-smaller : goal.loop-next-smaller
-loop-next-smaller c = let l = running_less c.loop-next.invariant c.quoted_turn.ensures (c.in_ok-quoted_turn.was ∙ ap Ok c.in-Goes.is) in omega (arith, l)
+loop-next-smaller c = let l = running_less c.loop-next.invariant c.in_ok-next.ensures (ap Ok c.in-Goes.is) in omega (arith, l)
 
 pub loop-next-preserved : goal.loop-next-preserved
-loop-next-preserved c = running_more c.loop-next.invariant c.quoted_turn.ensures (c.in_ok-quoted_turn.was ∙ ap Ok c.in-Goes.is) c.quoted_turn.auto.out
+loop-next-preserved c = running_more c.loop-next.invariant c.in_ok-next.ensures (ap Ok c.in-Goes.is) c.quoted_turn.auto.out
 
 pub returns-in-Closes : goal.returns-in-Closes
-returns-in-Closes c = running_closed c.loop-next.invariant c.quoted_turn.ensures (c.in_ok-quoted_turn.was ∙ ap Ok c.in-Closes.is)
+returns-in-Closes c = running_closed c.loop-next.invariant c.in_ok-next.ensures (ap Ok c.in-Closes.is)
 
-pub returns-in_err-quoted_turn : goal.returns-in_err-quoted_turn
-returns-in_err-quoted_turn c =
+pub returns-in_err-next : goal.returns-in_err-next
+returns-in_err-next c =
     let p = err_from_is_err_and c.from_residual.result c.from_residual.ensures.1 in
-    rw (p.1, p.2) (running_refused c.loop-next.invariant c.in_err-quoted_turn.ensures refl)
+    rw (p.1, p.2) (running_refused c.loop-next.invariant c.in_err-next.ensures refl)

@@ -11,7 +11,7 @@ returns-then-is_marker c =
 pub returns-then-p-q : goal.returns-then-p-q
 returns-then-p-q c =
     held_short c.args.text.now _ c.args.p _ c.byte.ensures c.quote_char.ensures c.is_checked.ensures c.if-is_checked.true (sym c.is_marker.ensures ∙ c.if-is_marker.false)
-    c.if-p-q.true c.refuse-2.ensures
+    c.if-p-q.true c.refuse-then-p-q.ensures
 
 pub returns-else-p-q : goal.returns-else-p-q
 returns-else-p-q c =
