@@ -18,7 +18,8 @@ use Rattle.yaml_text.specs.Refusal.{Read, ◌>>=◌, got, need}
 use Rattle.yaml_text.specs.Decode.{decode, decoded_char}
 use Rattle.yaml_text.specs.Test.{by_test, true_false}
 use Rattle.yaml_text.proofs.Utf8Laws.{first_fits}
-use Rattle.std.specs.Prelude.{Ok, Err, Result}
+use Rattle.std.specs.Prelude.{None, Some, Ok, Err, Result}
+use Rattle.std.proofs.lemmas.Option.{none-some, same_Some}
 use Rattle.yaml_text.specs.declared.Refusal.{Refusal}
 use Rattle.validity.specs.Checked.{checked}
 use Rattle.validity.specs.Sound.{PassesTo, good_len, onto, passes, past, sound, stops}
@@ -55,14 +56,14 @@ unfolding decode checked
 sound_past s at h = rw drop_of_length-le
 
 -- a character other than NUL
-by_good : {P : Type 0} (d : Decoded) (n : ℕ) → n ≡ good_len d → (n ≡ 0 → ⊥) → ((c : ℕ) → d ≡ Char c n → (c ≡ 0 → ⊥) → P) → P
+by_good : {P : Type 0} (d : Decoded) (n : ℕ) → Some n ≡ good_len d → ((c : ℕ) → d ≡ Char c n → (c ≡ 0 → ⊥) → P) → P
 unfolding is_z
-by_good (Char c k) n e z f =
+by_good (Char c k) n e f =
     by_test (is_z c)
-    (λ q. absurd (z (rw q at e)))
-    (λ q. let g : n ≡ k = rw q at e in f c (rw g) (eqb-false c 0 q))
-by_good Ill n e z f = absurd (z e)
-by_good End n e z f = absurd (z e)
+    (λ q. let z : Some n ≡ None = rw q at e in absurd (none-some n (sym z)))
+    (λ q. let g : n ≡ k = same_Some n k (rw q at e) in f c (rw g) (eqb-false c 0 q))
+by_good Ill n e f = absurd (none-some n (sym e))
+by_good End n e f = absurd (none-some n (sym e))
 
 -- one step of the pass, over n bytes
 pub record PassStep (s : List ℕ) (at n : ℕ) : Type 0 where
@@ -70,22 +71,22 @@ pub record PassStep (s : List ℕ) (at n : ℕ) : Type 0 where
   pub within : at + n ≤ length s
   pub same : sound (drop at s) ≡ sound (drop (at + n) s)
 
-pub next : (s : List ℕ) (at n : ℕ) → at ≤ length s → n ≡ good_len (first (drop at s)) → (n ≡ 0 → ⊥) → PassStep s at n
-next s at n h e z = by_good (first (drop at s)) n e z (λ c f q.
+pub next : (s : List ℕ) (at n : ℕ) → at ≤ length s → Some n ≡ good_len (first (drop at s)) → PassStep s at n
+next s at n h e = by_good (first (drop at s)) n e (λ c f q.
     let fits = first_fits (drop at s) c n f in
     let l = length-drop at s in
     record { some = omega arith; within = omega arith; same = rw drop-drop at (sound_char (drop at s) c n f q) })
 
 -- where no character other than NUL begins
-sound_stop : (l : List ℕ) (n : ℕ) → 0 < length l → n ≡ good_len (first l) → n ≡ 0 → sound l ≡ false
+sound_stop : (l : List ℕ) → 0 < length l → None ≡ good_len (first l) → sound l ≡ false
 unfolding is_z
-sound_stop l n h e z = by (first l) refl (sym z ∙ e)
+sound_stop l h e = by (first l) refl e
   where
-    by : (d : Decoded) → first l ≡ d → 0 ≡ good_len d → sound l ≡ false
+    by : (d : Decoded) → first l ≡ d → None ≡ good_len d → sound l ≡ false
     by (Char c k) f g =
         by_test (is_z c)
         (λ q. sym (ap passes (turn_nul origin l c k f (eqb-true c 0 q))))
-        (λ q. let w = first_fits l c k f in let v : 0 ≡ k = rw q at g in absurd (omega arith))
+        (λ q. let z : None ≡ Some k = rw q at g in absurd (none-some k z))
     by Ill f g = sym (ap passes (turn_none origin l Ill h (sym f) (inl refl)))
     by End f g = sym (ap passes (turn_none origin l End h (sym f) (inr refl)))
 
@@ -98,9 +99,9 @@ pub record Went (s : List ℕ) (at upto r : ℕ) : Type 0 where
 
 pub went : {s : List ℕ} {upto at r : ℕ} → at ≤ length s → upto ≤ length s → PassesTo s upto at r → Went s at upto r
 went h u (past l) = record { onward = omega arith; within = h; same = refl; short = λ k. absurd (omega arith) }
-went {s} {at} h u (stops {n = n} l e z) =
-    record { onward = omega arith; within = h; same = refl; short = λ _. sound_stop (drop at s) n (some_left s at (omega arith)) e z }
-went {s} {at} h u (onto {n = n} l e z w) =
-    let k = next s at n h e z in
+went {s} {at} h u (stops l e) =
+    record { onward = omega arith; within = h; same = refl; short = λ _. sound_stop (drop at s) (some_left s at (omega arith)) e }
+went {s} {at} h u (onto {n = n} l e w) =
+    let k = next s at n h e in
     let v = went k.within u w in
     record { onward = omega (arith, k.some, v.onward); within = v.within; same = k.same ∙ v.same; short = v.short }

@@ -1,5 +1,5 @@
 -- What the inner functions of the validity pass answer.
-use Rattle.std.specs.Prelude.{◌+◌, ◌-◌, ◌<◌, ◌≤◌, ℕ, Bool, false, true, List, Result, Ok, Err, ◌≡◌, ltb, drop}
+use Rattle.std.specs.Prelude.{◌+◌, ◌-◌, ◌<◌, ◌≤◌, ℕ, Bool, false, true, List, Option, None, Some, Result, Ok, Err, ◌≡◌, drop}
 use Rattle.yaml_text.specs.declared.Decoded.{Decoded}
 use Rattle.yaml_text.specs.declared.Decoded.TheVariants.{Char, End, Ill}
 use Rattle.yaml_text.specs.Pick.{pick}
@@ -18,18 +18,14 @@ passes (Err r) = false
 abbrev pub sound : List ℕ → Bool
 sound l = passes (checked (decode 0 origin l))
 
--- how many bytes a character other than NUL takes; 0: there is none
-abbrev pub good_len : Decoded → ℕ
-good_len (Char c n) = pick (is_z c) 0 n
-good_len Ill = 0
-good_len End = 0
+-- how many bytes a character other than NUL takes
+abbrev pub good_len : Decoded → Option ℕ
+good_len (Char c n) = pick (is_z c) None (Some n)
+good_len Ill = None
+good_len End = None
 
 -- by characters from a place on, until `upto` or where none other than NUL begins
 pub data PassesTo (s : List ℕ) (upto : ℕ) : ℕ → ℕ → Type 0 where
   past : {at : ℕ} → upto ≤ at → PassesTo s upto at at
-  stops : {at n : ℕ} → at < upto → n ≡ good_len (first (drop at s)) → n ≡ 0 → PassesTo s upto at at
-  onto : {at n r : ℕ} → at < upto → n ≡ good_len (first (drop at s)) → (n ≡ 0 → ⊥) → PassesTo s upto (at + n) r → PassesTo s upto at r
-
--- where a block of 64 bytes ends, or the text
-abbrev pub block_end : ℕ → ℕ → ℕ
-block_end at n = pick (ltb (n - at) 64) n (at + 64)
+  stops : {at : ℕ} → at < upto → None ≡ good_len (first (drop at s)) → PassesTo s upto at at
+  onto : {at n r : ℕ} → at < upto → Some n ≡ good_len (first (drop at s)) → PassesTo s upto (at + n) r → PassesTo s upto at r

@@ -8,7 +8,7 @@ ghost use Rattle.yaml_text.specs.Decode.{decode};
 ghost use Rattle.chars.specs.Ascii.{low};
 ghost use Rattle.chars.specs.Each.{all_of};
 ghost use Rattle.validity.specs.Checked.{checked};
-ghost use Rattle.validity.specs.Sound.{PassesTo, block_end, good_len, sound};
+ghost use Rattle.validity.specs.Sound.{PassesTo, good_len, sound};
 
 use chars::block::{Ascii, all_of};
 use chars::mark::{Place, break_length};
@@ -16,51 +16,43 @@ use chars::refuse::refuse;
 use utf8::{byte, char_at, four_bytes, lead_len, three_bytes, two_bytes};
 use yaml_text::{Decoded, Refusal};
 
-// How many bytes a decoded character takes; 0 where there is none other than NUL.
-fn good_len(d: Decoded) -> usize
+// How many bytes a decoded character other than NUL takes.
+fn good_len(d: Decoded) -> Option<usize>
     ensures { result ≡ good_len d }
 {
     match d {
-        Decoded::Char { code, len } => if code == 0 { 0 } else { len },
-        Decoded::Ill => 0,
-        Decoded::End => 0,
+        Decoded::Char { code, len } => {
+            if code == 0 { None } else { Some(len) }
+        }
+        Decoded::Ill | Decoded::End => None,
     }
 }
 
 // char_len where the byte is from 128 up. By branches on what it leads, so that the next turn does not wait for the code point.
-fn long_len(s: &[u8], at: usize) -> usize
+fn long_len(s: &[u8], at: usize) -> Option<usize>
     requires { (at < length s.now) × (128 ≤ get_or s.now at 0) }
     ensures { result ≡ good_len (first (drop at s.now)) }
 {
     let a = s[at];
-    let n = lead_len(a);
-    if n == 0 {
-        return 0;
-    }
     let b = byte(s, at + 1);
-    if n == 2 {
-        return good_len(two_bytes(a, b));
+    match lead_len(a) {
+        0 => None,
+        2 => good_len(two_bytes(a, b)),
+        3 => good_len(three_bytes(a, b, byte(s, at + 2))),
+        _ => good_len(four_bytes(a, b, byte(s, at + 2), byte(s, at + 3))),
     }
-    let c = byte(s, at + 2);
-    if n == 3 {
-        return good_len(three_bytes(a, b, c));
-    }
-    good_len(four_bytes(a, b, c, byte(s, at + 3)))
 }
 
-// How many bytes the character at a place takes; 0 where none other than NUL begins.
-fn char_len(s: &[u8], at: usize) -> usize
+// How many bytes the character other than NUL takes that begins at a place.
+fn char_len(s: &[u8], at: usize) -> Option<usize>
     requires { at < length s.now }
     ensures { result ≡ good_len (first (drop at s.now)) }
 {
-    let a = s[at];
-    if a == 0 {
-        return 0;
+    match s[at] {
+        0 => None,
+        1..=127 => Some(1),
+        _ => long_len(s, at),
     }
-    if a < 128 {
-        return 1;
-    }
-    long_len(s, at)
 }
 
 // Goes on by characters from `at` until `upto`, or stops before it where no character other than NUL begins.
@@ -70,20 +62,12 @@ fn go_slow(s: &[u8], at: usize, upto: usize) -> usize
 {
     let mut i = at;
     while i < upto {
-        let n = char_len(s, i);
-        if n == 0 {
+        let Some(n) = char_len(s, i) else {
             return i;
-        }
+        };
         i += n;
     }
     i
-}
-
-fn block_end(at: usize, n: usize) -> usize
-    requires { at < n }
-    ensures { (result ≡ block_end at n) × (at < result) × (result ≤ n) × (result ≤ at + 64) }
-{
-    if n - at < 64 { n } else { at + 64 }
 }
 
 // Whether the block from `at` to `e` is ASCII without NUL. Where its first byte is not, the others are not looked at.
@@ -97,13 +81,14 @@ fn is_ascii(s: &[u8], at: usize, e: usize) -> bool
     all_of::<Ascii>(&s[at..e])
 }
 
-// Whether a text is well-formed without NUL: by blocks, and by characters only where a block is not plain.
+// Whether a text is well-formed without NUL: by blocks, and by characters only where a block is not plain. A character may end behind its block,
+// so the next block begins where that one ended.
 fn is_sound(s: &[u8]) -> bool
     ensures { result ≡ sound s.now }
 {
     let mut at = 0;
     while at < s.len() {
-        let e = block_end(at, s.len());
+        let e = s.len().min(at + 64);
         if is_ascii(s, at, e) {
             at = e;
         } else {

@@ -1,4 +1,4 @@
--- Each arm is one case of the definition: NUL, any other character, none.
+-- NUL, and any other character.
 use Rattle.validity.proofs.Lengths.{good_char, good_nul}
 use Rattle.validity.proofs.good_len.Goals as goal
 

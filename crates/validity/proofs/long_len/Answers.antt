@@ -1,30 +1,26 @@
--- Each way out is the case of one length that the lead byte tells.
+-- Each arm is the case of one length that the lead byte tells.
 use mathlib.Core.Path.{◌∙◌, ◌≡◌, ap, sym}
 use native.Mathlib.Omega.{arith}
+use borrow.Author.Rules.{rules}
 use Rattle.utf8.proofs.Laws.{case0, case2, case3, case4, lone}
 use Rattle.validity.specs.Sound.{good_len}
 use Rattle.validity.proofs.long_len.Goals as goal
 
-pub returns-then-n-eq0 : goal.returns-then-n-eq0
-returns-then-n-eq0 c = ap good_len (case0 (c.args.s.now) (c.args.at) c.requires.0 c.lead_len-n.result c.lead_len-n.ensures c.if-n-eq0.true)
+pub returns-in-0 : goal.returns-in-0
+returns-in-0 c = ap good_len (case0 _ _ c.requires.0 _ c.lead_len.ensures c.in-0.is)
 
-pub returns-then-n-eq2 : goal.returns-then-n-eq2
-returns-then-n-eq2 c =
-    c.good_len.ensures
-    ∙ ap good_len (case2 (c.args.s.now) (c.args.at) c.requires.0 c.lead_len-n.result c.lead_len-n.ensures c.if-n-eq2.true
-    c.byte-b.result c.two_bytes.result c.byte-b.ensures c.two_bytes.ensures)
+pub returns-in-2 : goal.returns-in-2
+returns-in-2 c =
+    c.good_len.ensures ∙ ap good_len (case2 _ _ c.requires.0 _ c.lead_len.ensures c.in-2.is _ _ c.byte-b.ensures c.two_bytes.ensures)
 
-pub returns-then-n-eq3 : goal.returns-then-n-eq3
-returns-then-n-eq3 c =
-    c.good_len-then-n-eq3.ensures
-    ∙ ap good_len (case3 (c.args.s.now) (c.args.at) c.requires.0 c.lead_len-n.result c.lead_len-n.ensures c.if-n-eq3.true
-    c.byte-b.result c.byte-c.result c.three_bytes.result c.byte-b.ensures c.byte-c.ensures c.three_bytes.ensures)
+pub returns-in-3 : goal.returns-in-3
+returns-in-3 c =
+    c.good_len-in-3.ensures
+    ∙ ap good_len (case3 _ _ c.requires.0 _ c.lead_len.ensures c.in-3.is _ _ _ c.byte-b.ensures c.byte.ensures c.three_bytes.ensures)
 
-pub returns : goal.returns
-returns c =
-    let many : c.lead_len-n.result ≡ 1 → ⊥ = λ e. let k = lone _ (sym c.lead_len-n.ensures ∙ e) in let h = c.requires.1 in omega arith in
-    c.good_len-2.ensures
-    ∙ ap good_len (case4 (c.args.s.now) (c.args.at) c.requires.0 c.lead_len-n.result c.lead_len-n.ensures
-    c.if-n-eq0.false (many) c.if-n-eq2.false c.if-n-eq3.false
-    c.byte-b.result c.byte-c.result c.byte.result c.four_bytes.result
-    c.byte-b.ensures c.byte-c.ensures c.byte.ensures c.four_bytes.ensures)
+pub returns-in_default : goal.returns-in_default
+returns-in_default c =
+    let many : c.lead_len.result ≡ 1 → ⊥ = λ e. let k = lone _ (sym c.lead_len.ensures ∙ e) in let h = c.requires.1 in omega arith in
+    c.good_len-in_default.ensures
+    ∙ ap good_len (case4 _ _ c.requires.0 _ c.lead_len.ensures (search rules) many (search rules) (search rules)
+    _ _ _ _ c.byte-b.ensures c.byte-in_default.ensures c.byte-in_default-2.ensures c.four_bytes.ensures)
