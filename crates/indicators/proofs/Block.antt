@@ -5,6 +5,7 @@ use mathlib.Core.List.{List, [], ◌++◌, ◌∷◌}
 use mathlib.Core.Path.{◌∙◌, ◌≡◌, refl, sym}
 use native.Mathlib.Omega.{arith}
 use lib.Dec.{eqb, ltb}
+use Rattle.std.specs.Prelude.{Ok, Err}
 use Rattle.yaml_text.specs.declared.Mark.{Mark}
 use Rattle.yaml_text.specs.declared.Refusal.{Refusal}
 use Rattle.yaml_text.specs.Refusal.{◌>>=◌, need, refused}
@@ -18,8 +19,7 @@ use Rattle.yaml_scan.specs.declared.Limits.{Limits}
 use Rattle.yaml_scan.specs.State.{Event, empty_if, put}
 use Rattle.yaml_scan.specs.Value.{fetch_block_entry, fetch_key}
 use Rattle.chars.specs.declared.mark.Place.{Place}
-use Rattle.stacks.specs.declared.indent.Indents.{Indents}
-use Rattle.stacks.specs.declared.indent.Rolled.TheVariants.{Got, Refused}
+use Rattle.stacks.specs.declared.indent.Rolled.{Rolled}
 use Rattle.stacks.specs.Frame.{SetsLevel, level_of}
 use Rattle.stacks.specs.Stack.{entry_words}
 use Rattle.events.specs.declared.Counts.{Counts}
@@ -89,19 +89,19 @@ module _ (limits : Limits) (text a : List ℕ) (s : State) where
   entry_refused count e = rw (in_flow_seen text a count s, entry_not (ltb 0 s.flow_level) s.simple_key_allowed e)
 
   module _ {b : List ℕ} (e : (ltb 0 s.flow_level || not s.simple_key_allowed) ≡ false) where
-    pub entry_shut : {f : Refusal} (count : ℕ) → RollsAt limits a b s.place.mark s (Refused f) → fetch_block_entry limits (state_of text a count s) ≡ refused f.number f.mark
+    pub entry_shut : {f : Refusal} (count : ℕ) → RollsAt limits a b s.place.mark s (Err f) → fetch_block_entry limits (state_of text a count s) ≡ refused f.number f.mark
     unfolding fetch_block_entry need ◌>>=◌
     entry_shut count r = rw (in_flow_seen text a count s, entry_may (ltb 0 s.flow_level) s.simple_key_allowed e, ← r.same)
 
-    pub entry_goes : {c : List ℕ} {starts : Bool} {i : Indents} → Ready limits text a s → OneByte text s.place → RollsAt limits a b s.place.mark s (Got starts i) → Removes b c s → (n : Counts)
+    pub entry_goes : {c : List ℕ} {rolled : Rolled} → Ready limits text a s → OneByte text s.place → RollsAt limits a b s.place.mark s (Ok rolled) → Removes b c s → (n : Counts)
         → FetchesQuiet limits text a c (dash_words limits a s) n s (fetch_block_entry limits (state_of text a n.count s))
-        (goes_one (s_with_indents s i) note.Nothing (opening_if starts opening.BlockSequenceStart) held_as.BlockEntry true)
+        (Ok (goes_one (s_with_indents s rolled.indents) note.Nothing (opening_if rolled.starts opening.BlockSequenceStart) held_as.BlockEntry true))
     unfolding fetch_block_entry need ◌>>=◌
-    entry_goes {starts = starts} {i} y o r k n =
-        let h : i.depth ≤ entry_words = omega (arith, r.low.deep, y.lent.entries_most) in
+    entry_goes {rolled = rolled} y o r k n =
+        let h : rolled.indents.depth ≤ entry_words = omega (arith, r.low.deep, y.lent.entries_most) in
         one_goes y o r.low
-        (events opens_sequence block_entry starts s.place) (said opens_sequence block_entry _ n.used starts s.place) block_entry
-        (rw (in_flow_seen text a n.count s, entry_may (ltb 0 s.flow_level) s.simple_key_allowed e, ← r.same, ← removed_seen i r.frames k h text n.count))
+        (events opens_sequence block_entry rolled.starts s.place) (said opens_sequence block_entry _ n.used rolled.starts s.place) block_entry
+        (rw (in_flow_seen text a n.count s, entry_may (ltb 0 s.flow_level) s.simple_key_allowed e, ← r.same, ← removed_seen rolled.indents r.frames k h text n.count))
         (k.words ∙ rw r.words)
 
 -- '?'
@@ -112,28 +112,28 @@ module _ (limits : Limits) (text a : List ℕ) (s : State) where
   key_refused count e = rw (in_flow_seen text a count s, key_not s.flow_level s.simple_key_allowed e)
 
   module _ {b : List ℕ} (e : (eqb s.flow_level 0 && not s.simple_key_allowed) ≡ false) where
-    pub key_shut : {f : Refusal} (count : ℕ) → RollsAt limits a b s.place.mark s (Refused f) → fetch_key limits (state_of text a count s) ≡ refused f.number f.mark
+    pub key_shut : {f : Refusal} (count : ℕ) → RollsAt limits a b s.place.mark s (Err f) → fetch_key limits (state_of text a count s) ≡ refused f.number f.mark
     unfolding fetch_key need ◌>>=◌
     key_shut count r = rw (in_flow_seen text a count s, key_may s.flow_level s.simple_key_allowed e, ← r.same)
 
-    pub key_goes : {c g : List ℕ} {starts : Bool} {i : Indents} → Ready limits text a s → OneByte text s.place → RollsAt limits a b s.place.mark s (Got starts i) → Removes b c s
+    pub key_goes : {c g : List ℕ} {rolled : Rolled} → Ready limits text a s → OneByte text s.place → RollsAt limits a b s.place.mark s (Ok rolled) → Removes b c s
         → SetsLevel c g s.flow_level (questioned_of (level_of c s.flow_level)) → (n : Counts)
         → FetchesQuiet limits text a g (question_words limits a s) n s (fetch_key limits (state_of text a n.count s))
-        (goes_one (s_with_indents s i) note.Nothing (opening_if starts opening.BlockMappingStart) held_as.Key (eqb s.flow_level 0))
+        (Ok (goes_one (s_with_indents s rolled.indents) note.Nothing (opening_if rolled.starts opening.BlockMappingStart) held_as.Key (eqb s.flow_level 0)))
     unfolding fetch_key need ◌>>=◌
-    key_goes {c} {starts = starts} {i} y o r k q n =
-        let h : i.depth ≤ entry_words = omega (arith, r.low.deep, y.lent.entries_most) in
+    key_goes {c} {rolled = rolled} y o r k q n =
+        let h : rolled.indents.depth ≤ entry_words = omega (arith, r.low.deep, y.lent.entries_most) in
         one_goes y o r.low
-        (events opens_mapping key starts s.place) (said opens_mapping key _ n.used starts s.place) key
+        (events opens_mapping key rolled.starts s.place) (said opens_mapping key _ n.used rolled.starts s.place) key
         (rw (
           in_flow_seen text a n.count s,
           key_may s.flow_level s.simple_key_allowed e,
           ← r.same,
-          ← removed_seen i r.frames k h text n.count,
-          in_flow_seen text c n.count (s_with_indents s i),
+          ← removed_seen rolled.indents r.frames k h text n.count,
+          in_flow_seen text c n.count (s_with_indents s rolled.indents),
           level_zero s.flow_level,
           question_levels s.flow_level q,
           q.keys (suc s.flow_level),
-          q.entries.entries i.depth h,
+          q.entries.entries rolled.indents.depth h,
         ))
         (q.words ∙ rw (k.sets.level s.flow_level, r.frames.level s.flow_level, k.words, r.words))

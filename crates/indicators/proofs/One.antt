@@ -5,6 +5,7 @@ use mathlib.Core.List.{List}
 use mathlib.Core.Path.{◌≡◌, refl}
 use native.Mathlib.Omega.{arith}
 use lib.ListN.{get_or}
+use Rattle.std.specs.Prelude.{Ok}
 use Rattle.yaml_text.specs.Mark.{skip_by}
 use Rattle.yaml_text.specs.Refusal.{Read}
 use Rattle.yaml_lexeme.specs.declared.Kind.{Kind}
@@ -35,7 +36,7 @@ module _ {limits : Limits} {text a e w : List ℕ} {n : Counts} {s : State} (y :
   pub one_goes : {t : Note} {o : Opening} {k : tokens.Kind} {kind : Kind} {allowed : Bool} {d : Read News} (events : List Event)
       → laid_of (key_mark (key_of a s.flow_level)) (event_one t o kind s.place) ≡ laid_events n.used events → Textless k kind
       → d ≡ emit events (at_place (skip_by 1 (view text s.place)) false (allow allowed (state_of text e n.count (s_with_indents s i)))) → e ≡ w
-      → FetchesQuiet limits text a e w n s d (goes_one (s_with_indents s i) t o kind allowed)
+      → FetchesQuiet limits text a e w n s d (Ok (goes_one (s_with_indents s i) t o kind allowed))
   one_goes {allowed = allowed} events said t i q =
       let m = moves_along y.stands 1 1 (reach_one (byte_char text s.place.at (get_or text s.place.at 0) refl b.some b.ascii)) in
       fetch_quiet events said (at_place (skip_by 1 (view text s.place)) false (allow allowed (state_of text e n.count (s_with_indents s _)))) i

@@ -5,14 +5,15 @@ use mathlib.Core.List.{List}
 use mathlib.Core.Path.{◌≡◌, sym}
 use native.Mathlib.Omega.{arith}
 use borrow.Author.Tests.{le-ltb, lt-ltb}
+use Rattle.std.specs.Prelude.{Result, Ok, Err}
 use Rattle.yaml_text.specs.declared.Mark.{Mark}
+use Rattle.yaml_text.specs.declared.Refusal.{Refusal}
 use Rattle.yaml_scan.specs.declared.Limits.{Limits}
 use Rattle.yaml_scan.specs.Indent.{roll_at}
 use Rattle.yaml_scan.specs.State.{remove_key, with_indents}
 use Rattle.yaml_scan.specs.Value.{roll_state}
 use Rattle.stacks.specs.declared.indent.Indents.{Indents}
 use Rattle.stacks.specs.declared.indent.Rolled.{Rolled}
-use Rattle.stacks.specs.declared.indent.Rolled.TheVariants.{Got, Refused}
 use Rattle.stacks.specs.Frame.{FramesStay, frame_keys}
 use Rattle.stacks.specs.Indent.{indents_seen}
 use Rattle.stacks.specs.Roll.{Rolls, rolled_seen}
@@ -30,18 +31,18 @@ use Rattle.indicators.specs.Words.{roll_words}
 pub rollable : {limits : Limits} {text a : List ℕ} {s : State} → Ready limits text a s → Rollable limits a s.place.mark s
 rollable y = record { low = y.low; lent = y.lent; col = omega (arith, y.stands) }
 
-kept_by : {a e : List ℕ} {room edge : ℕ} {m : Mark} {i : Indents} (r : Rolled) → Rolls a e room m edge i r → KeptRolled a e r
-kept_by (Got starts i) w = tt
-kept_by (Refused f) w = roll_kept w
+kept_by : {a e : List ℕ} {room edge : ℕ} {m : Mark} {i : Indents} (r : Result Rolled Refusal) → Rolls a e room m edge i r → KeptRolled a e r
+kept_by (Ok o) w = tt
+kept_by (Err f) w = roll_kept w
 
 module _ {limits : Limits} {a : List ℕ} {m : Mark} {s : State} (h : Rollable limits a m s) where
-  pub rolls_flow : 0 < s.flow_level → RollsAt limits a a m s (Got false s.indents)
+  pub rolls_flow : 0 < s.flow_level → RollsAt limits a a m s (Ok (record { starts = false; indents = s.indents }))
   unfolding roll_at roll_words
   rolls_flow f =
       let t = lt-ltb 0 s.flow_level f in
       record { same = rw (t, roll_at); words = rw t; kept = tt; frames = frames_stay_same a; low = h.low }
 
-  pub rolls_block : {e : List ℕ} {r : Rolled} → s.flow_level ≤ 0 → Rolls a e limits.entries s.place.mark (m.col + 1) s.indents r → RollsAt limits a e m s r
+  pub rolls_block : {e : List ℕ} {r : Result Rolled Refusal} → s.flow_level ≤ 0 → Rolls a e limits.entries s.place.mark (m.col + 1) s.indents r → RollsAt limits a e m s r
   unfolding roll_at roll_words
   rolls_block {r = r} f w =
       let t = le-ltb 0 s.flow_level f in
@@ -54,7 +55,7 @@ module _ {limits : Limits} {a : List ℕ} {m : Mark} {s : State} (h : Rollable l
       }
 
 -- what the definition sees of it
-pub roll_seen : {limits : Limits} {a e : List ℕ} {m : Mark} {s : State} {r : Rolled} (text : List ℕ) (count : ℕ) → RollsAt limits a e m s r
+pub roll_seen : {limits : Limits} {a e : List ℕ} {m : Mark} {s : State} {r : Result Rolled Refusal} (text : List ℕ) (count : ℕ) → RollsAt limits a e m s r
     → roll_state limits m (state_of text a count s) ≡ rolled_seen e r
 roll_seen {a = a} {s = s} text count h = rw (in_flow_seen text a count s) (sym h.same)
 

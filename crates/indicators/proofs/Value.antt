@@ -5,6 +5,7 @@ use mathlib.Core.List.{List, [], ◌++◌, ◌∷◌, map}
 use mathlib.Core.Path.{◌∙◌, ◌≡◌, ap, refl, sym}
 use native.Mathlib.Omega.{arith}
 use lib.Dec.{eqb, ltb}
+use Rattle.std.specs.Prelude.{Result, Ok, Err}
 use Rattle.yaml_text.specs.declared.Mark.{Mark}
 use Rattle.yaml_text.specs.declared.Refusal.{Refusal}
 use Rattle.yaml_text.specs.Refusal.{Read, ◌>>=◌, got, need, refused}
@@ -22,8 +23,7 @@ use Rattle.yaml_scan.specs.Keys.{set_key}
 use Rattle.yaml_scan.specs.State.{Event, empty_if, put, put_before}
 use Rattle.yaml_scan.specs.Value.{begins_pair, colon_seen, fetch_value, kind_if, value_by, value_with, value_without}
 use Rattle.chars.specs.declared.mark.Place.{Place}
-use Rattle.stacks.specs.declared.indent.Indents.{Indents}
-use Rattle.stacks.specs.declared.indent.Rolled.TheVariants.{Got, Refused}
+use Rattle.stacks.specs.declared.indent.Rolled.{Rolled}
 use Rattle.stacks.specs.Frame.{FramesStay, SetsKey, frame_keys, frame_levels, key_of, level_of, put_key, put_level}
 use Rattle.stacks.specs.Indent.{EntriesStay}
 use Rattle.stacks.specs.Stack.{entry_words}
@@ -86,16 +86,16 @@ abbrev starts_in : Read definition.Rolled → Bool
 starts_in (got r) = r.starts
 starts_in (refused n m) = false
 
-not_both : {limits : Limits} {a b : List ℕ} {m : Mark} {s : State} {starts : Bool} {i : Indents} (l : Level) → RollsAt limits a b m s (Got starts i)
-    → (pair_of s.flow_level l && starts) ≡ false
+not_both : {limits : Limits} {a b : List ℕ} {m : Mark} {s : State} {rolled : Rolled} (l : Level) → RollsAt limits a b m s (Ok rolled)
+    → (pair_of s.flow_level l && rolled.starts) ≡ false
 unfolding pair_of roll_at
 not_both {s = s} l r =
     by_test (ltb 0 s.flow_level)
     (λ e. let f = rw (e, roll_at) at r.same in rw (ap starts_in f) (and-false (pair_of s.flow_level l)))
     (λ e. rw e)
 
-one_start : {limits : Limits} {a b c e : List ℕ} {m : Mark} {s : State} {starts pair : Bool} {i : Indents} → RollsAt limits a b m s (Got starts i) → Coloned a b c e s.flow_level pair
-    → (pair && starts) ≡ false
+one_start : {limits : Limits} {a b c e : List ℕ} {m : Mark} {s : State} {pair : Bool} {rolled : Rolled} → RollsAt limits a b m s (Ok rolled) → Coloned a b c e s.flow_level pair
+    → (pair && rolled.starts) ≡ false
 one_start {a = a} {s = s} r k = rw (← k.is, pair_levels a s.flow_level) (not_both (level_of a s.flow_level) r)
 
 -- the events, by cases
@@ -132,20 +132,20 @@ pub rollable_key : {limits : Limits} {text a : List ℕ} {s : State} {m : Mark} 
 rollable_key {a = a} {s} y q = record { low = y.low; lent = y.lent; col = rw q at (key_low a s.flow_level) }
 
 module _ {limits : Limits} (text a : List ℕ) {b : List ℕ} (s : State) (number : ℕ) (m : Mark) where
-  pub with_shut : {f : Refusal} (count : ℕ) → RollsAt limits a b m s (Refused f) → value_with limits number m (state_of text a count s) ≡ refused f.number f.mark
+  pub with_shut : {f : Refusal} (count : ℕ) → RollsAt limits a b m s (Err f) → value_with limits number m (state_of text a count s) ≡ refused f.number f.mark
   unfolding value_with ◌>>=◌
   with_shut count r = rw (roll_seen text count r)
 
-  pub with_goes : {e : List ℕ} {starts pair : Bool} {i : Indents} → Ready limits text a s → OneByte text s.place → key_mark (key_of a s.flow_level) ≡ m
-      → RollsAt limits a b m s (Got starts i) → Coloned a b (put_key b s.flow_level Absent) e s.flow_level pair → (n : Counts)
+  pub with_goes : {e : List ℕ} {pair : Bool} {rolled : Rolled} → Ready limits text a s → OneByte text s.place → key_mark (key_of a s.flow_level) ≡ m
+      → RollsAt limits a b m s (Ok rolled) → Coloned a b (put_key b s.flow_level Absent) e s.flow_level pair → (n : Counts)
       → FetchesQuiet limits text a e (with_words limits a m s) n s (value_with limits number m (state_of text a n.count s))
-      (goes_one (s_with_indents s i) (note_by number pair starts) opening.Nothing held_as.Value false)
+      (Ok (goes_one (s_with_indents s rolled.indents) (note_by number pair rolled.starts) opening.Nothing held_as.Value false))
   unfolding value_with ◌>>=◌
-  with_goes {starts = starts} {pair} {i} y o q r k n =
-      let h : i.depth ≤ entry_words = omega (arith, r.low.deep, y.lent.entries_most) in
-      one_goes y o r.low (with_events number pair starts m s.place)
-      (rw q (said_with n.used number pair starts m s.place (one_start r k))) value
-      (rw (roll_seen text n.count r, k.keys, k.levels, k.is, k.entries.entries i.depth h))
+  with_goes {pair = pair} {rolled} y o q r k n =
+      let h : rolled.indents.depth ≤ entry_words = omega (arith, r.low.deep, y.lent.entries_most) in
+      one_goes y o r.low (with_events number pair rolled.starts m s.place)
+      (rw q (said_with n.used number pair rolled.starts m s.place (one_start r k))) value
+      (rw (roll_seen text n.count r, k.keys, k.levels, k.is, k.entries.entries rolled.indents.depth h))
       (k.words ∙ rw r.words)
 
 -- without
@@ -156,25 +156,25 @@ module _ (limits : Limits) (text a : List ℕ) (s : State) where
   without_refused count e = rw (in_flow_seen text a count s, key_not s.flow_level s.simple_key_allowed e)
 
   module _ {b : List ℕ} (e : (eqb s.flow_level 0 && not s.simple_key_allowed) ≡ false) where
-    pub without_shut : {f : Refusal} (count : ℕ) → RollsAt limits a b s.place.mark s (Refused f) → value_without limits (state_of text a count s) ≡ refused f.number f.mark
+    pub without_shut : {f : Refusal} (count : ℕ) → RollsAt limits a b s.place.mark s (Err f) → value_without limits (state_of text a count s) ≡ refused f.number f.mark
     unfolding value_without need ◌>>=◌
     without_shut count r = rw (in_flow_seen text a count s, key_may s.flow_level s.simple_key_allowed e, ← r.same)
 
-    pub without_goes : {g : List ℕ} {starts pair : Bool} {i : Indents} → Ready limits text a s → OneByte text s.place
-        → RollsAt limits a b s.place.mark s (Got starts i) → Coloned a b b g s.flow_level pair → (n : Counts)
+    pub without_goes : {g : List ℕ} {pair : Bool} {rolled : Rolled} → Ready limits text a s → OneByte text s.place
+        → RollsAt limits a b s.place.mark s (Ok rolled) → Coloned a b b g s.flow_level pair → (n : Counts)
         → FetchesQuiet limits text a g (without_words limits a s) n s (value_without limits (state_of text a n.count s))
-        (goes_one (s_with_indents s i) note.Nothing (start_by pair starts) held_as.Value (eqb s.flow_level 0))
+        (Ok (goes_one (s_with_indents s rolled.indents) note.Nothing (start_by pair rolled.starts) held_as.Value (eqb s.flow_level 0)))
     unfolding value_without need ◌>>=◌
-    without_goes {starts = starts} {pair} {i} y o r k n =
-        let h : i.depth ≤ entry_words = omega (arith, r.low.deep, y.lent.entries_most) in
-        one_goes y o r.low (without_events pair starts s.place)
-        (said_without n.used _ s.place pair starts (one_start r k)) value
-        (rw (in_flow_seen text a n.count s, key_may s.flow_level s.simple_key_allowed e, ← r.same, k.keys, k.levels, k.is, level_zero s.flow_level, k.entries.entries i.depth h))
+    without_goes {pair = pair} {rolled} y o r k n =
+        let h : rolled.indents.depth ≤ entry_words = omega (arith, r.low.deep, y.lent.entries_most) in
+        one_goes y o r.low (without_events pair rolled.starts s.place)
+        (said_without n.used _ s.place pair rolled.starts (one_start r k)) value
+        (rw (in_flow_seen text a n.count s, key_may s.flow_level s.simple_key_allowed e, ← r.same, k.keys, k.levels, k.is, level_zero s.flow_level, k.entries.entries rolled.indents.depth h))
         (k.words ∙ rw r.words)
 
 -- by the candidate
 
-module _ {limits : Limits} {text a e : List ℕ} {n : Counts} {s : State} {r : Fetched} where
+module _ {limits : Limits} {text a e : List ℕ} {n : Counts} {s : State} {r : Result Fetched Refusal} where
   pub value_absent : key_of a s.flow_level ≡ Absent → FetchesQuiet limits text a e (without_words limits a s) n s (value_without limits (state_of text a n.count s)) r
       → FetchesQuiet limits text a e (colon_words limits a s) n s (fetch_value limits (state_of text a n.count s)) r
   unfolding value_by words_by

@@ -147,6 +147,7 @@ fn colon_seen(stacks: &mut [u32; STACK_WORDS], level: usize) -> bool
 }
 
 // With a candidate, an empty Key goes in before it.
+#[tactic(auto, unfolding(crate::specs::Indicator::note_by))]
 fn note_of(n: u32, pair: bool, starts: bool) -> Note
     ensures { result ≡ note_by n pair starts }
 {
@@ -160,6 +161,7 @@ fn note_of(n: u32, pair: bool, starts: bool) -> Note
 }
 
 // Without, a start token may come first.
+#[tactic(auto, unfolding(crate::specs::Indicator::start_by))]
 fn opening_of(pair: bool, starts: bool) -> Opening
     ensures { result ≡ start_by pair starts }
 {
