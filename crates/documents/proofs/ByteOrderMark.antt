@@ -5,6 +5,7 @@ use mathlib.Core.List.{List}
 use mathlib.Core.Path.{refl}
 use native.Mathlib.Omega.{arith}
 use lib.ListN.{drop}
+use Rattle.std.specs.Prelude.{Ok}
 use Rattle.yaml_text.specs.Char.{byte_order_mark}
 use Rattle.yaml_text.specs.Mark.{here, over_bom}
 use Rattle.yaml_text.specs.Utf8.{chars}
@@ -32,8 +33,8 @@ textless = record { same = λ used. refl; bytes = refl }
 
 pub bom_goes : {limits : Limits} {text a e : List ℕ} {n : Counts} {s : State} {u : Unrolled} → Ready limits text a s → CharAt text s.place.at byte_order_mark 3 → LeavesBlocks a e s u
     → FetchesQuiet limits text a e (removed_words a s) n s (fetch_byte_order_mark (state_of text a n.count s))
-    (goes_outside s u (past s.place 3 (over_bom s.place.mark)) s.leading_whitespace true
-    (record { kind = held_as.ByteOrderMark; start = s.place.mark; end = over_bom s.place.mark }))
+    (Ok (goes_outside s u (past s.place 3 (over_bom s.place.mark)) s.leading_whitespace true
+    (record { kind = held_as.ByteOrderMark; start = s.place.mark; end = over_bom s.place.mark })))
 unfolding fetch_byte_order_mark
 bom_goes {text = text} {n = n} {s = s} y k l =
     let m = over_bom s.place.mark in

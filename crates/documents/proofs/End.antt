@@ -5,6 +5,7 @@ use mathlib.Core.List.{List, [], ◌++◌, ◌∷◌}
 use mathlib.Core.Path.{◌≡◌, refl}
 use native.Mathlib.Omega.{arith}
 use borrow.Author.Tests.{le-ltb, lt-ltb}
+use Rattle.std.specs.Prelude.{Ok, Err}
 use Rattle.yaml_text.specs.Refusal.{◌>>=◌, need}
 use Rattle.yaml_lexeme.specs.declared.Kind.TheVariants as held_as
 use Rattle.yaml_lexeme.specs.Record.{laid}
@@ -19,7 +20,7 @@ use Rattle.stacks.specs.Indent.{Unrolls}
 use Rattle.events.specs.declared.Counts.{Counts}
 use Rattle.events.specs.Event.{closing_of}
 use Rattle.events.specs.Laid.{Textless, textless_size}
-use Rattle.states.specs.declared.Fetched.TheVariants.{Ends, Refused}
+use Rattle.states.specs.declared.Fetched.TheVariants.{Ends}
 use Rattle.states.specs.declared.State.{State}
 use Rattle.states.specs.Answer.{fetch_ends, fetch_refused}
 use Rattle.states.specs.Fetch.{FetchesQuiet, Ready}
@@ -33,20 +34,20 @@ textless = record { same = λ used. refl; bytes = refl }
 
 module _ {limits : Limits} {text a : List ℕ} {n : Counts} {s : State} where
   pub end_flow : 0 < s.flow_level
-      → FetchesQuiet limits text a a a n s (fetch_stream_end (state_of text a n.count s)) (Refused (record { number = 47; mark = s.place.mark }))
+      → FetchesQuiet limits text a a a n s (fetch_stream_end (state_of text a n.count s)) (Err (record { number = 47; mark = s.place.mark }))
   unfolding fetch_stream_end need ◌>>=◌
   end_flow h = fetch_refused (rw (in_flow_seen text a n.count s, lt-ltb 0 s.flow_level h)) refl
 
   module _ (h : s.flow_level ≤ 0) where
     pub end_required : is_required (key_of a s.flow_level) ≡ true
-        → FetchesQuiet limits text a a a n s (fetch_stream_end (state_of text a n.count s)) (Refused (record { number = 41; mark = forced s.place.mark }))
+        → FetchesQuiet limits text a a a n s (fetch_stream_end (state_of text a n.count s)) (Err (record { number = 41; mark = forced s.place.mark }))
     unfolding fetch_stream_end need ◌>>=◌
     end_required e =
         fetch_refused (rw (in_flow_seen text a n.count s, le-ltb 0 s.flow_level h, top_seen a s.flow_level, e)) refl
 
     pub ends : {u : Unrolled} → Ready limits text a s → is_required (key_of a s.flow_level) ≡ false → Unrolls a 0 s.indents u
         → FetchesQuiet limits text a a a n s (fetch_stream_end (state_of text a n.count s))
-        (Ends (closing_of u.ended (record { kind = held_as.StreamEnd; start = forced s.place.mark; end = forced s.place.mark })))
+        (Ok (Ends (closing_of u.ended (record { kind = held_as.StreamEnd; start = forced s.place.mark; end = forced s.place.mark }))))
     unfolding fetch_stream_end need ◌>>=◌
     ends {u} y e w =
         let m = forced s.place.mark in

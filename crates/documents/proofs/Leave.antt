@@ -4,6 +4,7 @@ use mathlib.Core.Bool.{Bool}
 use mathlib.Core.List.{List, [], ◌++◌, ◌∷◌}
 use mathlib.Core.Path.{◌∙◌, ◌≡◌, ap, sym}
 use native.Mathlib.Omega.{arith}
+use Rattle.std.specs.Prelude.{Ok}
 use Rattle.yaml_text.specs.declared.Mark.{Mark}
 use Rattle.yaml_text.specs.Mark as mark
 use Rattle.yaml_text.specs.Refusal.{Read}
@@ -55,7 +56,7 @@ pub fetch_outside : {limits : Limits} {text a e : List ℕ} {n : Counts} {s : St
     → view text p ≡ q → Stands text p → s.place.at + 1 ≤ p.at
     → d ≡ emit (all_ends (state_of text a n.count s) ++ (put (record { kind = k; start = s.place.mark; end = end }) ∷ []))
     (at_place q leads (allow allowed (state_of text e n.count (s_with_indents s u.indents))))
-    → FetchesQuiet limits text a e (removed_words a s) n s d (goes_outside s u p leads allowed (record { kind = h; start = s.place.mark; end = end }))
+    → FetchesQuiet limits text a e (removed_words a s) n s d (Ok (goes_outside s u p leads allowed (record { kind = h; start = s.place.mark; end = end })))
 fetch_outside {text = text} {e = e} {n = n} {s = s} {u} y l {k} t q end leads allowed v h on i =
     let m = s.place.mark in
     let z = textless_size t in

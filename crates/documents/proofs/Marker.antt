@@ -7,6 +7,7 @@ use native.Mathlib.Omega.{arith}
 use lib.Dec.{eqb}
 use lib.ListN.{drop}
 use borrow.Author.Tests.{eqb-true, le-ltb, lt-ltb}
+use Rattle.std.specs.Prelude.{Result, Ok, Err}
 use Rattle.yaml_text.specs.declared.Mark.{Mark}
 use Rattle.yaml_text.specs.declared.Refusal.{Refusal}
 use Rattle.yaml_text.specs.Char.{'-', dot}
@@ -32,13 +33,10 @@ use Rattle.chars.specs.Lines.{marker_ascii}
 use Rattle.chars.specs.Places.{moves_along}
 use Rattle.chars.specs.Reach.{Reach, more, none}
 use Rattle.chars.specs.View.{Moves, Stands, past, view}
-use Rattle.reading.specs.declared.Reached.{Reached}
-use Rattle.reading.specs.declared.Reached.TheVariants as reached
 use Rattle.reading.specs.Reading.{ReachesAs, seen_place}
 use Rattle.stacks.specs.declared.indent.Unrolled.{Unrolled}
 use Rattle.events.specs.declared.Counts.{Counts}
 use Rattle.events.specs.Laid.{Textless}
-use Rattle.states.specs.declared.Fetched.TheVariants.{Refused}
 use Rattle.states.specs.declared.State.{State}
 use Rattle.states.specs.Answer.{fetch_refused}
 use Rattle.states.specs.Fetch.{FetchesQuiet, Ready}
@@ -79,23 +77,23 @@ marker_moves {text} {p} h e = moves_along h 3 3 (marker_reach p.mark text p.at e
 -- what follows it
 
 module _ {text : List ℕ} {p : Place} {starts : Bool} where
-  pub after_start : starts ≡ true → Stands text p → ReachesAs text p (reached.To p) (after_marker starts (view text p))
+  pub after_start : starts ≡ true → Stands text p → ReachesAs text p (Ok p) (after_marker starts (view text p))
   unfolding after_marker seen_place
   after_start e h = record { same = rw (e, after_marker); onward = (h, omega arith) }
 
   module _ (f : starts ≡ false) where
-    pub after_refused : {f : Refusal} → ReachesAs text p (reached.Refused f) (blanks_and_comment (view text p))
-        → ReachesAs text p (reached.Refused f) (after_marker starts (view text p))
+    pub after_refused : {f : Refusal} → ReachesAs text p (Err f) (blanks_and_comment (view text p))
+        → ReachesAs text p (Err f) (after_marker starts (view text p))
     unfolding after_marker seen_place ◌>>=◌
     after_refused k = record { same = rw (f, after_marker, ← k.same); onward = tt }
 
-    module _ {q : Place} (k : ReachesAs text p (reached.To q) (blanks_and_comment (view text p))) where
-      pub after_break : is_breakz (look (view text q)) ≡ true → ReachesAs text p (reached.To q) (after_marker starts (view text p))
+    module _ {q : Place} (k : ReachesAs text p (Ok q) (blanks_and_comment (view text p))) where
+      pub after_break : is_breakz (look (view text q)) ≡ true → ReachesAs text p (Ok q) (after_marker starts (view text p))
       unfolding after_marker seen_place ◌>>=◌ need
       after_break b = record { same = rw (f, after_marker, ← k.same, b); onward = k.onward }
 
       pub after_text : is_breakz (look (view text q)) ≡ false
-          → ReachesAs text p (reached.Refused (record { number = 49; mark = q.mark })) (after_marker starts (view text p))
+          → ReachesAs text p (Err (record { number = 49; mark = q.mark })) (after_marker starts (view text p))
       unfolding after_marker seen_place ◌>>=◌ need
       after_text b = record { same = rw (f, after_marker, ← k.same, b); onward = tt }
 
@@ -111,7 +109,7 @@ kinds false = record { same = λ used. refl; bytes = refl }
 
 -- what the definition answers, by what was reached behind the marker
 module _ (text a : List ℕ) (count : ℕ) (s : State) (starts : Bool) where
-  begun : {r : Reached} → s.flow_level ≤ 0 → Moves text s.place (behind_marker s.place) (skip_by 3 (view text s.place))
+  begun : {r : Result Place Refusal} → s.flow_level ≤ 0 → Moves text s.place (behind_marker s.place) (skip_by 3 (view text s.place))
       → ReachesAs text (behind_marker s.place) r (after_marker starts (view text (behind_marker s.place)))
       → fetch_document_indicator starts (state_of text a count s)
       ≡ seen_place text r >>= λ p.
@@ -122,20 +120,20 @@ module _ (text a : List ℕ) (count : ℕ) (s : State) (starts : Bool) where
 
 module _ {limits : Limits} {text a : List ℕ} {n : Counts} {s : State} (starts : Bool) where
   pub marker_flow : 0 < s.flow_level
-      → FetchesQuiet limits text a a (removed_words a s) n s (fetch_document_indicator starts (state_of text a n.count s)) (Refused (record { number = 47; mark = s.place.mark }))
+      → FetchesQuiet limits text a a (removed_words a s) n s (fetch_document_indicator starts (state_of text a n.count s)) (Err (record { number = 47; mark = s.place.mark }))
   unfolding fetch_document_indicator need ◌>>=◌
   marker_flow h = fetch_refused (rw (in_flow_seen text a n.count s, lt-ltb 0 s.flow_level h)) refl
 
   module _ (h : s.flow_level ≤ 0) (m : Moves text s.place (behind_marker s.place) (skip_by 3 (view text s.place))) where
-    pub marker_refused : {f : Refusal} → ReachesAs text (behind_marker s.place) (reached.Refused f) (after_marker starts (view text (behind_marker s.place)))
-        → FetchesQuiet limits text a a (removed_words a s) n s (fetch_document_indicator starts (state_of text a n.count s)) (Refused f)
+    pub marker_refused : {f : Refusal} → ReachesAs text (behind_marker s.place) (Err f) (after_marker starts (view text (behind_marker s.place)))
+        → FetchesQuiet limits text a a (removed_words a s) n s (fetch_document_indicator starts (state_of text a n.count s)) (Err f)
     unfolding seen_place ◌>>=◌
     marker_refused v = fetch_refused (begun text a n.count s starts h m v) refl
 
     pub marker_goes : {e : List ℕ} {u : Unrolled} {next : Place} → Ready limits text a s
-        → ReachesAs text (behind_marker s.place) (reached.To next) (after_marker starts (view text (behind_marker s.place))) → LeavesBlocks a e s u
+        → ReachesAs text (behind_marker s.place) (Ok next) (after_marker starts (view text (behind_marker s.place))) → LeavesBlocks a e s u
         → FetchesQuiet limits text a e (removed_words a s) n s (fetch_document_indicator starts (state_of text a n.count s))
-        (goes_outside s u next false false (held_of starts s.place.mark))
+        (Ok (goes_outside s u next false false (held_of starts s.place.mark)))
     unfolding seen_place ◌>>=◌
     marker_goes {next = next} y v l =
         fetch_outside y l (kinds starts) (view text next) (along_by 3 s.place.mark) false false refl v.onward.0 (omega (arith, v.onward.1))

@@ -86,10 +86,10 @@ fn after_marker(text: &[u8], starts: bool, p: Place) -> Result<Place, Refusal>
     }
     let e = blanks_and_comment(text, p)?;
     let at = e.at;
-    if !is_breakz(look(text, at)) {
-        return refuse(49, e.mark);
+    if is_breakz(look(text, at)) {
+        return Ok(e);
     }
-    Ok(e)
+    refuse(49, e.mark)
 }
 
 // `---` or `...`. 47: in flow.
@@ -123,6 +123,7 @@ pub fn fetch_document_indicator(
 }
 
 // The end of the text forces a new line.
+#[tactic(auto, unfolding(yaml_scan::specs::Document::forced))]
 fn forced(m: Mark) -> Mark
     requires { m.line < 2 ^ 31 }
     ensures { result ≡ forced m }
