@@ -1,6 +1,8 @@
 -- Lines.
-use Rattle.std.specs.Prelude.{◌+◌, ◌<◌, ◌≤◌, suc, ℕ, false, true, List, [], ◌∷◌, ◌≡◌, eqb, drop, get_or, length}
-use Rattle.std.proofs.Common.{add-one, arith, drop_of_length-le, length-drop, drop-cons, ne_eqb}
+use Rattle.std.specs.Prelude.{◌+◌, ◌<◌, ◌≤◌, suc, ℕ, false, not, refl, true, List, [], ◌∷◌, ◌≡◌, eqb, drop, get_or, length}
+use Rattle.std.proofs.Common.{add-one, ap, arith, drop_of_length-le, length-drop, drop-cons, ne_eqb}
+use Rattle.std.specs.List.{take_while}
+use Rattle.std.proofs.lemmas.List.Sums.{take_while-cons}
 use Rattle.yaml_text.specs.Test.{by_test}
 
 -- how many bytes stand before the first line feed, or before the end
@@ -10,6 +12,15 @@ line_length (b ∷ s) = elim (eqb b 10) [
   | true ↦ 0
   | false ↦ suc (line_length s)
 ]
+
+-- so many are taken up to there
+pub line_taken : (s : List ℕ) → length (take_while (λ b. not (eqb b 10)) s) ≡ line_length s
+unfolding line_length
+line_taken [] = refl
+line_taken (b ∷ s) =
+    by_test (eqb b 10)
+    (λ e. rw (take_while-cons, e, line_length))
+    (λ e. rw (take_while-cons, e, line_length) (ap suc (line_taken s)))
 
 -- at a line feed
 pub line_ends : (s : List ℕ) (i : ℕ) → i < length s → get_or s i 0 ≡ 10 → line_length (drop i s) ≡ 0

@@ -13,12 +13,18 @@ use std::io;
 use std::io::Read;
 pub use write::{behind, put_accepted, put_head, put_hex, put_refused};
 
+// How many bytes stand before the first line feed, or before the end.
+fn line_len(s: &[u8]) -> usize
+    ensures { result ≡ line_length s.now }
+{
+    s.iter().take_while(|b| **b != b'\n').count()
+}
+
 // Where the line that begins at `at` ends.
 pub fn line_end(s: &[u8], at: usize) -> usize
     ensures { result ≡ at + line_length (drop at s.now) }
 {
-    let line = s.iter().skip(at).take_while(|b| **b != b'\n');
-    at + line.count()
+    at + line_len(&s[at.min(s.len())..])
 }
 
 // Reads standard input into a room, until it is full or the input ends; how many bytes were read.
@@ -43,7 +49,7 @@ fn digit(b: u8) -> Option<u8>
 {
     match b {
         b'0'..=b'9' => Some(b - b'0'),
-        b'a'..=b'f' => Some(b - b'a' + 10),
+        b'a'..=b'f' => Some(b - (b'a' - 10)),
         _ => None,
     }
 }

@@ -17,7 +17,7 @@ fn figure(n: u8) -> u8
     requires { n < 16 }
     ensures { result ≡ hex_digit_ascii n }
 {
-    if n < 10 { b'0' + n } else { b'a' + n - 10 }
+    if n < 10 { b'0' + n } else { b'a' - 10 + n }
 }
 
 // Two digits for each byte, from `at` on; where the next goes.

@@ -1,6 +1,8 @@
 -- Five texts stored one behind another are one text.
+use mathlib.Core.Path.{refl}
 use native.Mathlib.Omega.{arith}
-use Rattle.vectors.proofs.Lines.{accepted_written, first_part}
+use lib.ListN.{length-take}
+use Rattle.vectors.proofs.Lines.{accepted_written}
 use Rattle.vectors.proofs.write.put_accepted.Goals as goal
 
 pub returns : goal.returns
@@ -12,6 +14,6 @@ returns c =
     let s = c.put_hex-e.ensures in
     let u = c.put_text.ensures in
     record {
-      written = accepted_written a.words.now a.bytes.now a.t a.d (first_part a.d a.bytes.now) p q.written r.written s.written u;
-      upper_bound = omega (arith, p.behind, q.upper_bound, r.upper_bound, s.value, u.behind);
+      written = accepted_written a.words.now a.bytes.now a.t a.d refl p q.written r.written s.written u;
+      upper_bound = omega (arith, p.behind, q.upper_bound, r.upper_bound, s.value, u.behind, length-take a.d a.bytes.now);
     }
