@@ -3,26 +3,19 @@ ghost use Rattle.std.specs.Prelude.{◌≤◌, length};
 
 use printing::say_numbers;
 use records::RECORD_WORDS;
-use scanner::{Answer, scan};
+use scanner::{Refused, Sizes, scan};
 use std::io;
 
-fn fill(out: &mut [u8], b: u8) {
-    let mut i = 0;
-    while i < out.len() {
-        out[i] = b;
-        i += 1;
-    }
-}
-
-fn say_answer(rt: &HostRuntime, what: &[u8], a: Answer) -> io::Result<()> {
+fn say_answer(rt: &HostRuntime, what: &[u8], a: Result<Sizes, Refused>) -> io::Result<()> {
     rt.write_all(what)?;
     match a {
-        Answer::Accepted(t, d) => {
-            say_numbers(&[t, d], 10);
+        Ok(n) => {
+            say_numbers(&[n.tokens, n.bytes], b'\n');
         }
-        Answer::Refused(f, _, _) => {
+        Err(r) => {
+            let f = r.refusal;
             let m = f.mark;
-            say_numbers(&[f.number, m.index, m.line, m.col], 10);
+            say_numbers(&[f.number, m.index, m.line, m.col], b'\n');
         }
     }
     Ok(())
@@ -35,9 +28,9 @@ fn say_levels(rt: &HostRuntime, what: &[u8], levels: usize, text: &mut [u8]) -> 
     let mut words = [7u32; 514 * RECORD_WORDS];
     let mut bytes = [7u8; 1];
     let end = 2 * levels;
-    fill(&mut text[0..levels], 91);
-    fill(&mut text[levels..end], 93);
-    say_answer(rt, what, scan(&text[0..end], &mut words, &mut bytes))
+    text[..levels].fill(b'[');
+    text[levels..end].fill(b']');
+    say_answer(rt, what, scan(&text[..end], &mut words, &mut bytes))
 }
 
 fn say_version(rt: &HostRuntime, what: &[u8], text: &[u8]) -> io::Result<()> {
@@ -57,8 +50,8 @@ fn say_plain(
     requires { size ≤ length text.old }
 {
     let mut words = [7u32; 3 * RECORD_WORDS];
-    fill(&mut text[0..size], 97);
-    say_answer(rt, what, scan(&text[0..size], &mut words, bytes))
+    text[..size].fill(b'a');
+    say_answer(rt, what, scan(&text[..size], &mut words, bytes))
 }
 
 // For each limit `T D`, or the refusal's number and mark.

@@ -38,49 +38,9 @@ struct Loan {
     number: u32,
 }
 
-// One more, if it is so, up to the largest number.
-fn count(n: u32, yes: bool) -> u32 {
-    if n == 4294967295 {
-        return n;
-    }
-    if yes { n + 1 } else { n }
-}
-
-// A number less, or 0.
-fn less(n: usize) -> usize {
-    if 0 < n { n - 1 } else { 0 }
-}
-
-fn least(a: usize, b: usize) -> usize
-    ensures { (result ≤ a) × (result ≤ b) }
-{
-    if a < b { a } else { b }
-}
-
-// Counts the words that are not zero on from n.
-fn words_left(words: &[u32], n: u32) -> u32 {
-    let mut k = n;
-    let mut i = 0;
-    while i < words.len() {
-        k = count(k, words[i] != 0);
-        i += 1;
-    }
-    k
-}
-
-// The same for bytes.
-fn bytes_left(bytes: &[u8], n: u32) -> u32 {
-    let mut k = n;
-    let mut i = 0;
-    while i < bytes.len() {
-        k = count(k, bytes[i] != 0);
-        i += 1;
-    }
-    k
-}
-
-fn same(a: [u32; 6], b: [u32; 6]) -> bool {
-    a[0] == b[0] && a[1] == b[1] && a[2] == b[2] && a[3] == b[3] && a[4] == b[4] && a[5] == b[5]
+// So many more, up to the largest number.
+fn more(n: u32, by: usize) -> u32 {
+    n.saturating_add(u32::try_from(by).unwrap_or(u32::MAX))
 }
 
 // What is expected in a room that is too small: a refusal at the origin, with T and D. A text that is refused is refused as before.
@@ -103,17 +63,17 @@ fn lent(room: Small, t: u32, d: u32) -> Loan {
         },
         Small::NoWords => Loan {
             words: 0,
-            bytes: bytes,
+            bytes,
             number: 4,
         },
         Small::RecordLess => Loan {
-            words: less(words),
-            bytes: bytes,
+            words: words.saturating_sub(1),
+            bytes,
             number: 4,
         },
         Small::ByteLess => Loan {
-            words: words,
-            bytes: less(bytes),
+            words,
+            bytes: bytes.saturating_sub(1),
             number: 5,
         },
     }
@@ -138,10 +98,10 @@ fn refuse_in(
 ) -> Tally {
     let a = scan(text, words, bytes);
     Tally {
-        lent: count(n.lent, true),
-        as_expected: count(n.as_expected, same(numbers_of(a), expected)),
-        words: words_left(words, n.words),
-        bytes: bytes_left(bytes, n.bytes),
+        lent: more(n.lent, 1),
+        as_expected: more(n.as_expected, (numbers_of(a) == expected) as usize),
+        words: more(n.words, words.iter().filter(|w| **w != 0).count()),
+        bytes: more(n.bytes, bytes.iter().filter(|b| **b != 0).count()),
     }
 }
 
@@ -150,15 +110,15 @@ fn in_small_room(text: &[u8], words: &mut [u32], bytes: &mut [u8], room: Small, 
     requires { length text.now < 2 ^ 32 }
 {
     let enough = enough_words(text.len(), words.len());
-    let whole = numbers_of(scan(text, &mut words[0..enough], bytes));
+    let whole = numbers_of(scan(text, &mut words[..enough], bytes));
     if is_lent(room, whole) {
         let r = lent(room, whole[4], whole[5]);
-        let w = least(r.words, words.len());
-        let b = least(r.bytes, bytes.len());
+        let w = r.words.min(words.len());
+        let b = r.bytes.min(bytes.len());
         return refuse_in(
             text,
-            &mut words[0..w],
-            &mut bytes[0..b],
+            &mut words[..w],
+            &mut bytes[..b],
             expected(r.number, whole),
             n,
         );
@@ -175,7 +135,7 @@ fn line_in_small_room(
 ) -> Tally {
     let mut space = [0u8; 40960];
     let k = read_hex(line, &mut space);
-    in_small_room(&space[0..k], words, bytes, room, n)
+    in_small_room(&space[..k], words, bytes, room, n)
 }
 
 fn in_small_rooms(s: &[u8], words: &mut [u32], bytes: &mut [u8], room: Small) -> Tally {
@@ -185,11 +145,8 @@ fn in_small_rooms(s: &[u8], words: &mut [u32], bytes: &mut [u8], room: Small) ->
         words: 0,
         bytes: 0,
     };
-    let mut at = 0;
-    while at < s.len() {
-        let end = line_end(s, at);
-        n = line_in_small_room(&s[at..end], words, bytes, room, n);
-        at = end + 1;
+    for line in s.split_inclusive(|b| *b == b'\n') {
+        n = line_in_small_room(&line[..line_end(line, 0)], words, bytes, room, n);
     }
     n
 }
@@ -200,14 +157,14 @@ fn say_room(rt: &HostRuntime, what: &[u8], s: &[u8], room: Small) -> io::Result<
     let mut bytes = [7u8; 6144];
     let n = in_small_rooms(s, &mut words, &mut bytes, room);
     rt.write_all(what)?;
-    say_numbers(&[n.lent, n.as_expected, n.words, n.bytes], 10);
+    say_numbers(&[n.lent, n.as_expected, n.words, n.bytes], b'\n');
     Ok(())
 }
 
 // The vectors come from standard input.
 pub(crate) fn say_rooms(rt: &HostRuntime, space: &mut [u8]) -> io::Result<()> {
     let n = read_input(rt, space)?;
-    let s = &space[0..n];
+    let s = &space[..n];
     rt.write_all(b"rooms: lent, answered as expected, words and bytes not zero\n")?;
     say_room(rt, b"nothing: ", s, Small::Nothing)?;
     say_room(rt, b"no words: ", s, Small::NoWords)?;

@@ -1,6 +1,7 @@
 -- One token more, and tokens until a seed is handed over or the job closes: what the code's parts answer (Asked, Replied), held to the definition's.
-use Rattle.std.specs.Prelude.{◌+◌, ℕ, List, ◌≡◌, length}
+use Rattle.std.specs.Prelude.{◌+◌, ℕ, Err, List, Ok, Result, ◌≡◌, length}
 use Rattle.yaml_text.specs.declared.Mark.{Mark}
+use Rattle.yaml_text.specs.declared.Refusal.{Refusal}
 use Rattle.yaml_lexeme.specs.Record.{mark_in}
 use Rattle.yaml_scan.specs.declared.Limits.{Limits}
 use Rattle.yaml_stream.specs.Stream.{Stream, call}
@@ -46,10 +47,10 @@ from_effect (Refuses r) k n = ends (NotDone r k n)
 from_effect Finishes k n = ends (Done n)
 
 -- r is the token's record, where there is one
-abbrev pub from_answer : Next → List ℕ → List ℕ → ShapePlace → Met → ℕ → Asked
-from_answer next.Token r b p m n = from_effect (effect p m (seen r b)) (mark_in r 1) n
-from_answer next.Ended r b p m n = Replies (lost p m n)
-from_answer (next.Refused f) r b p m n = ends (NotDone f.number f.mark n)
+abbrev pub from_answer : Result Next Refusal → List ℕ → List ℕ → ShapePlace → Met → ℕ → Asked
+from_answer (Ok next.Token) r b p m n = from_effect (effect p m (seen r b)) (mark_in r 1) n
+from_answer (Ok next.Ended) r b p m n = Replies (lost p m n)
+from_answer (Err f) r b p m n = ends (NotDone f.number f.mark n)
 
 -- held to the definition
 

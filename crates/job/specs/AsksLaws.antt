@@ -1,10 +1,11 @@
 -- What the code answers is what the definition's call comes to: by cases of the stream's answer, and of the effect of its token; and a token that only leads on
 -- leaves the rest of the call.
-use Rattle.std.specs.Prelude.{◌-◌, ◌<◌, suc, zero, ℕ, ◌≡◌, refl, length}
+use Rattle.std.specs.Prelude.{◌-◌, ◌<◌, suc, zero, ℕ, Ok, Result, ◌≡◌, refl, length}
 use mathlib.Core.List.{List, [], ◌++◌, ◌∷◌}
 use Rattle.std.proofs.Common.{◌∙◌, subst, sym, arith, length-append}
 use Rattle.std.proofs.Math.Path.{ap}
 use Rattle.yaml_text.specs.declared.Mark.{Mark}
+use Rattle.yaml_text.specs.declared.Refusal.{Refusal}
 use Rattle.yaml_lexeme.specs.Record.{mark_in, record_of}
 use Rattle.yaml_lexeme.specs.Token.{Token, token_bytes}
 use Rattle.yaml_scan.specs.declared.Limits.{Limits}
@@ -67,7 +68,7 @@ counted_as : {limits : Limits} {text : List ℕ} {words room words' room' n : �
 counted_as e f c = rw (e, f) c
 
 module _ (text h' l' b' : List ℕ) (p : ShapePlace) (m : Met) (n room : ℕ) (x : Stream) (c : Counted standard text (length l') room n x) (same : length b' ≡ room) where
-  answer_comes : (gone r : List ℕ) (a : stream.Next) (y : Stream) (s : Next) → call standard room x ≡ called a y → Says (length gone) a r s
+  answer_comes : (gone r : List ℕ) (a : stream.Next) (y : Stream) (s : Result Next Refusal) → call standard room x ≡ called a y → Says (length gone) a r s
       → Holds standard text h' l' b' (gone ++ text_given a) y
       → ComesTo standard text h' l' b' p m n a y (from_answer s r b' p m n)
   unfolding record_of
@@ -82,7 +83,7 @@ module _ (text h' l' b' : List ℕ) (p : ShapePlace) (m : Met) (n room : ℕ) (x
   answer_comes gone r (refusal k j) y s e (f, g) w = rw f (λ go. record { answers = refl; holds = has_closed })
   answer_comes gone r spent y s e f w = absurd f
 
-pub ask_told : (text h l b h' l' b' r : List ℕ) (p : ShapePlace) (m : Met) (n : ℕ) (a : Next) (o : Asked) → length l' ≡ length l → length b' ≡ length b
+pub ask_told : (text h l b h' l' b' r : List ℕ) (p : ShapePlace) (m : Met) (n : ℕ) (a : Result Next Refusal) (o : Asked) → length l' ≡ length l → length b' ≡ length b
     → Promises standard text h l b h' l' b' r a → o ≡ from_answer a r b' p m n → AskPromises standard text h l b h' l' b' p m n o
 ask_told text h l b h' l' b' r p m n a o e f k g x w =
     let c = call standard (length b) x in
@@ -91,7 +92,7 @@ ask_told text h l b h' l' b' r p m n a o e f k g x w =
 
 -- the code's parts
 
-pub from_token : {a : Next} {e : Effect} {k : Mark} (r b : List ℕ) (p : ShapePlace) (m : Met) (n : ℕ) → a ≡ next.Token → e ≡ effect p m (seen r b) → k ≡ mark_in r 1
+pub from_token : {a : Result Next Refusal} {e : Effect} {k : Mark} (r b : List ℕ) (p : ShapePlace) (m : Met) (n : ℕ) → a ≡ Ok next.Token → e ≡ effect p m (seen r b) → k ≡ mark_in r 1
     → from_effect e k n ≡ from_answer a r b p m n
 from_token r b p m n f g h = rw (f, g, h)
 

@@ -3,26 +3,23 @@
 
 mod own;
 
-ghost use Rattle.std.specs.Prelude.{◌≤◌, ◌≡◌, length};
+ghost use Rattle.std.specs.Prelude.{◌≡◌};
 ghost use Rattle.yaml_lexeme.specs.Record.{mark_in};
 ghost use Rattle.yaml_scan.specs.Scan.{standard};
 ghost use Rattle.yaml_job.specs.Job.{effect, most_asked};
-ghost use Rattle.driver.specs.Held.{held_words};
-ghost use Rattle.stacks.specs.Most.{at_most};
 ghost use Rattle.job.specs.declared.Reader.TheVariants.{Reading};
 ghost use Rattle.job.specs.Asks.{AskPromises, AsksPromise, ends, from_answer, from_effect, hands, lost, next_count};
 ghost use Rattle.job.specs.JobHolds.{JobPromises};
-ghost use Rattle.job.specs.Own.{job_words, reader_in};
+ghost use Rattle.job.specs.Own.{reader_in};
 ghost use Rattle.job.specs.Sees.{seen};
 
 use crate::own::{OWN_WORDS, reader_in, reader_words};
 use driver::held::HELD_WORDS;
-use records::{RECORD_WORDS, store};
+use records::RECORD_WORDS;
 use shape::effect;
-use stacks::at_most;
-use stream::{Next, next_held};
+use stream::{Next, next_token};
 use yaml_job::{Closing, Effect, JobAnswer, Met, ShapePlace};
-use yaml_text::Mark;
+use yaml_text::{Mark, Refusal};
 
 // Words that are kept from call to call: the stream's, then the reader's own.
 pub const JOB_WORDS: usize = HELD_WORDS + OWN_WORDS;
@@ -68,7 +65,7 @@ fn closes(c: Closing) -> Asked
 fn hands(value: u32, place: ShapePlace, met: Met, n: u32) -> Asked
     ensures { result ≡ hands value place met (next_count n) }
 {
-    let count = at_most(4_294_967_294, n) + 1;
+    let count = n.saturating_add(1);
     Asked::Replies(Replied {
         answer: JobAnswer::Seed { value, count },
         reader: Reader::Reading { place, met, count },
@@ -99,21 +96,12 @@ fn by_effect(e: Effect, mark: Mark, count: u32) -> Asked
     }
 }
 
-fn least(most: usize, n: usize) -> usize
-    ensures { (result ≡ at_most most n) × (result ≤ most) }
-{
-    if most < n {
-        return most;
-    }
-    n
-}
-
 // What a token does, whose text stands in the bytes.
 fn effect_of(token: [u32; RECORD_WORDS], bytes: &[u8], place: ShapePlace, met: Met) -> Effect
     ensures { result ≡ effect place met (seen token bytes.now) }
 {
-    let from = least(bytes.len(), token[7] as usize);
-    let to = from + least(bytes.len() - from, token[8] as usize);
+    let from = (token[7] as usize).min(bytes.len());
+    let to = from + (token[8] as usize).min(bytes.len() - from);
     effect(place, met, token[0], token[11], &bytes[from..to])
 }
 
@@ -129,7 +117,7 @@ fn start_of(token: [u32; RECORD_WORDS]) -> Mark
 
 // What an answer of the stream comes to; where it is a token, this is its record.
 fn by_answer(
-    a: Next,
+    a: Result<Next, Refusal>,
     token: [u32; RECORD_WORDS],
     bytes: &[u8],
     place: ShapePlace,
@@ -139,23 +127,19 @@ fn by_answer(
     ensures { result ≡ from_answer a token bytes.now place met count }
 {
     match a {
-        Next::Token => by_effect(effect_of(token, bytes, place, met), start_of(token), count),
-        Next::Ended => Asked::Replies(lost(place, met, count)),
-        Next::Refused(f) => {
-            let number = f.number;
-            let mark = f.mark;
-            closes(Closing::NotDone {
-                number,
-                mark,
-                count,
-            })
-        }
+        Ok(Next::Token) => by_effect(effect_of(token, bytes, place, met), start_of(token), count),
+        Ok(Next::Ended) => Asked::Replies(lost(place, met, count)),
+        Err(f) => closes(Closing::NotDone {
+            number: f.number,
+            mark: f.mark,
+            count,
+        }),
     }
 }
 
 // Asks for one token.
 fn ask(
-    held: &mut [u32],
+    held: &mut [u32; HELD_WORDS],
     text: &[u8],
     words: &mut [u32],
     bytes: &mut [u8],
@@ -163,17 +147,16 @@ fn ask(
     met: Met,
     count: u32,
 ) -> Asked
-    requires { length held.old ≡ held_words }
     ensures { AskPromises standard text.now held.old words.old bytes.old held.new words.new bytes.new place met count result }
 {
     let mut token = [0u32; RECORD_WORDS];
-    let a = next_held(held, text, words, bytes, &mut token);
+    let a = next_token(held, text, words, bytes, &mut token);
     by_answer(a, token, bytes, place, met, count)
 }
 
 // Asks for tokens until a seed is handed over or the job closes.
 fn asks(
-    held: &mut [u32],
+    held: &mut [u32; HELD_WORDS],
     text: &[u8],
     words: &mut [u32],
     bytes: &mut [u8],
@@ -181,31 +164,25 @@ fn asks(
     met: Met,
     count: u32,
 ) -> Replied
-    requires { length held.old ≡ held_words }
     ensures { AsksPromise standard text.now most_asked held.old words.old bytes.old held.new words.new bytes.new place met count result }
 {
     let mut p = place;
     let mut m = met;
-    let mut left = MOST_ASKED;
-    while 0 < left {
-        let a = ask(held, text, words, bytes, p, m, count);
-        match a {
+    for _ in 0..MOST_ASKED {
+        match ask(held, text, words, bytes, p, m, count) {
             Asked::Goes { place, met } => {
                 p = place;
                 m = met;
             }
-            Asked::Replies(r) => {
-                return r;
-            }
+            Asked::Replies(r) => return r,
         }
-        left -= 1;
     }
     lost(p, m, count)
 }
 
 // Where no closing record was given yet.
 fn read_on(
-    state: &mut [u32],
+    state: &mut [u32; JOB_WORDS],
     text: &[u8],
     words: &mut [u32],
     bytes: &mut [u8],
@@ -213,22 +190,13 @@ fn read_on(
     met: Met,
     count: u32,
 ) -> JobAnswer
-    requires { (length state.old ≡ job_words) × (reader_in state.old ≡ Reading place met count) }
+    requires { reader_in state.old ≡ Reading place met count }
     ensures { JobPromises standard text.now state.old words.old bytes.old state.new words.new bytes.new result }
 {
-    let r = asks(
-        &mut state[0..HELD_WORDS],
-        text,
-        words,
-        bytes,
-        place,
-        met,
-        count,
-    );
-    let reader = r.reader;
-    let answer = r.answer;
-    store(state, HELD_WORDS, &reader_words(reader));
-    answer
+    let (held, own) = state.split_first_chunk_mut::<HELD_WORDS>().unwrap();
+    let r = asks(held, text, words, bytes, place, met, count);
+    own.copy_from_slice(&reader_words(r.reader));
+    r.answer
 }
 
 // The next seed of a job sheet, or the closing record. The state is all zero at first; state, text, words and bytes are those of the call before.

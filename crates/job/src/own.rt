@@ -1,6 +1,6 @@
 // The reader's own words, which stand behind those of the stream.
 ghost use Rattle.std.specs.Prelude.{◌≡◌};
-ghost use Rattle.job.specs.Own.{closed_words, field_number, field_of, flag, form_number, form_of, place_of, place_words, reader_in, reader_words, reading_in, reading_words, refused_in};
+ghost use Rattle.job.specs.Own.{closed_words, field_of, form_of, place_of, place_words, reader_in, reader_words, reading_in, reading_words, refused_in};
 
 use crate::{JOB_WORDS, Reader};
 use driver::held::HELD_WORDS;
@@ -30,29 +30,10 @@ const DONE: u32 = 11;
 
 const NOT_DONE: u32 = 12;
 
-fn form_number(g: Form) -> u32
-    ensures { result ≡ form_number g }
-{
-    match g {
-        Form::Block => 0,
-        Form::Braces => 1,
-    }
-}
-
 fn form_of(n: u32) -> Form
     ensures { result ≡ form_of n }
 {
     if n == 0 { Form::Block } else { Form::Braces }
-}
-
-fn field_number(f: Field) -> u32
-    ensures { result ≡ field_number f }
-{
-    match f {
-        Field::Sample => 0,
-        Field::Panel => 1,
-        Field::Seeds => 2,
-    }
 }
 
 fn field_of(n: u32) -> Field
@@ -72,13 +53,13 @@ fn place_words(p: ShapePlace) -> [u32; 3]
     match p {
         ShapePlace::AtStart => [0, 0, 0],
         ShapePlace::AtMapping => [1, 0, 0],
-        ShapePlace::AtField(g) => [2, form_number(g), 0],
-        ShapePlace::AtName(g) => [3, form_number(g), 0],
-        ShapePlace::AtValue { form, field } => [4, form_number(form), field_number(field)],
-        ShapePlace::AtText(g) => [5, form_number(g), 0],
-        ShapePlace::AtList(g) => [6, form_number(g), 0],
-        ShapePlace::AtEntry(g) => [7, form_number(g), 0],
-        ShapePlace::BehindSeed(g) => [8, form_number(g), 0],
+        ShapePlace::AtField(g) => [2, g as u32, 0],
+        ShapePlace::AtName(g) => [3, g as u32, 0],
+        ShapePlace::AtValue { form, field } => [4, form as u32, field as u32],
+        ShapePlace::AtText(g) => [5, g as u32, 0],
+        ShapePlace::AtList(g) => [6, g as u32, 0],
+        ShapePlace::AtEntry(g) => [7, g as u32, 0],
+        ShapePlace::BehindSeed(g) => [8, g as u32, 0],
         ShapePlace::BehindField => [9, 0, 0],
         ShapePlace::AtEnd => [10, 0, 0],
     }
@@ -100,12 +81,6 @@ fn place_of(n: u32, form: Form, field: Field) -> ShapePlace
         9 => ShapePlace::BehindField,
         _ => ShapePlace::AtEnd,
     }
-}
-
-fn flag(b: bool) -> u32
-    ensures { result ≡ flag b }
-{
-    if b { 1 } else { 0 }
 }
 
 fn closed_words(c: Closing) -> [u32; OWN_WORDS]
@@ -131,9 +106,9 @@ fn reading_words(place: ShapePlace, met: Met, count: u32) -> [u32; OWN_WORDS]
         p[0],
         p[1],
         p[2],
-        flag(met.sample),
-        flag(met.panel),
-        flag(met.seeds),
+        met.sample as u32,
+        met.panel as u32,
+        met.seeds as u32,
         count,
         0,
         0,

@@ -17,7 +17,7 @@ use arguments::word::MOST_WORD;
 use outlets::{Outlet, fail};
 use printing::{put_numbers, put_records};
 use records::RECORD_WORDS;
-use scanner::{Answer, scan_with};
+use scanner::{Refused, Sizes, scan_with};
 use sheets::{Sheet, Source, open_file, read_sheet};
 use std::env::FillError;
 use std::io;
@@ -25,19 +25,26 @@ use std::rt::Env;
 use yaml_scan::Limits;
 
 // The listing of an answer, with what the words hold; how long it is.
-fn put_answer(out: &mut [u8], a: Answer, words: &[u32]) -> usize
+fn put_answer(out: &mut [u8], a: Result<Sizes, Refused>, words: &[u32]) -> usize
     requires { tokens_left (verdict_of a) * record_words ≤ length words.now }
     ensures written { Written out.old 0 (lines_text (verdict_lines (verdict_of a) words.now)) out.new result }
     ensures upper_bound { result ≤ 44 + 110 * (length words.now / record_words) }
 {
     match a {
-        Answer::Accepted(t, d) => {
-            let next = put_numbers(out, 0, &[t, d], 32, 10);
-            put_records(out, next, words, t)
+        Ok(n) => {
+            let next = put_numbers(out, 0, &[n.tokens, n.bytes], b' ', b'\n');
+            put_records(out, next, words, n.tokens)
         }
-        Answer::Refused(f, _, _) => {
+        Err(r) => {
+            let f = r.refusal;
             let m = f.mark;
-            put_numbers(out, 0, &[f.number, m.index, m.line, m.col], 32, 10)
+            put_numbers(
+                out,
+                0,
+                &[f.number, m.index, m.line, m.col],
+                b' ',
+                b'\n',
+            )
         }
     }
 }
@@ -101,9 +108,8 @@ fn list_input(rt: &HostRuntime) {
 
 // Lists the sheet that a file holds.
 fn list_file(rt: &HostRuntime, name: &[u8]) {
-    match open_file(rt, name) {
-        Some(mut from) => list_sheet(rt, name, &mut from),
-        None => {}
+    if let Some(mut from) = open_file(rt, name) {
+        list_sheet(rt, name, &mut from);
     }
 }
 
@@ -125,18 +131,15 @@ fn list_argument(rt: &HostRuntime, i: usize) {
 }
 
 fn list_named(rt: &HostRuntime, name: &[u8]) {
-    if name.len() == 1 && name[0] == b'-' {
-        list_input(rt);
-        return;
+    match name {
+        b"-" => list_input(rt),
+        _ => list_file(rt, name),
     }
-    list_file(rt, name);
 }
 
 fn list_arguments(rt: &HostRuntime, count: usize) {
-    let mut i = 1;
-    while i < count {
+    for i in 1..count {
         list_argument(rt, i);
-        i += 1;
     }
 }
 

@@ -7,7 +7,7 @@ ghost use Rattle.vectors.specs.Vector.{vector_line};
 ghost use Rattle.replay.specs.Replay.{line_again, longest};
 
 use records::RECORD_WORDS;
-use scanner::{Answer, scan};
+use scanner::scan;
 use std::io;
 use vectors::{enough_words, line_end, put_accepted, put_head, put_refused, read_hex, read_input};
 
@@ -18,10 +18,9 @@ fn put_vector(out: &mut [u8], text: &[u8], words: &mut [u32], bytes: &mut [u8]) 
     ensures upper_bound { result ≤ longest (length text.now) (length words.old) (length bytes.old) }
 {
     let n = put_head(out, text);
-    let a = scan(text, words, bytes);
-    match a {
-        Answer::Accepted(t, d) => put_accepted(out, n, t, d, words, bytes),
-        Answer::Refused(f, _, _) => put_refused(out, n, f),
+    match scan(text, words, bytes) {
+        Ok(sizes) => put_accepted(out, n, sizes.tokens, sizes.bytes, words, bytes),
+        Err(r) => put_refused(out, n, r.refusal),
     }
 }
 
@@ -33,7 +32,7 @@ fn put_line(out: &mut [u8], line: &[u8], words: &mut [u32], bytes: &mut [u8]) ->
     let mut space = [0u8; 40960];
     let n = read_hex(line, &mut space);
     let room = enough_words(n, words.len());
-    put_vector(out, &space[0..n], &mut words[0..room], bytes)
+    put_vector(out, &space[..n], &mut words[..room], bytes)
 }
 
 fn replay_line(
@@ -46,7 +45,7 @@ fn replay_line(
     requires { longest 40_960 (length words.old) (length bytes.old) ≤ length out.old }
 {
     let n = put_line(out, line, words, bytes);
-    rt.write_all(&out[0..n])
+    rt.write_all(&out[..n])
 }
 
 // The rooms hold what the text before left there.
@@ -59,11 +58,8 @@ fn replay_all(
 ) -> io::Result<()>
     requires { longest 40_960 (length words.old) (length bytes.old) ≤ length out.old }
 {
-    let mut at = 0;
-    while at < s.len() {
-        let end = line_end(s, at);
-        replay_line(rt, &s[at..end], words, bytes, out)?;
-        at = end + 1;
+    for line in s.split_inclusive(|b| *b == b'\n') {
+        replay_line(rt, &line[..line_end(line, 0)], words, bytes, out)?;
     }
     Ok(())
 }
@@ -79,7 +75,7 @@ fn replay_input(
     requires { longest 40_960 (length words.old) (length bytes.old) ≤ length out.old }
 {
     let n = read_input(rt, space)?;
-    replay_all(rt, &space[0..n], words, bytes, out)
+    replay_all(rt, &space[..n], words, bytes, out)
 }
 
 fn main(rt: HostRuntime) -> io::Result<()> {

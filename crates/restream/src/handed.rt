@@ -16,7 +16,7 @@ fn say_closing(rt: &HostRuntime, c: Closing) -> io::Result<()> {
     match c {
         Closing::Done { count } => {
             rt.write_all(b"|done ")?;
-            say_numbers(&[count], 10);
+            say_numbers(&[count], b'\n');
         }
         Closing::NotDone {
             number,
@@ -24,7 +24,7 @@ fn say_closing(rt: &HostRuntime, c: Closing) -> io::Result<()> {
             count,
         } => {
             rt.write_all(b"|not ")?;
-            say_numbers(&[number, mark.index, mark.line, mark.col, count], 10);
+            say_numbers(&[number, mark.index, mark.line, mark.col, count], b'\n');
         }
     }
     Ok(())
@@ -56,13 +56,11 @@ pub(crate) fn say_job(
     bytes: &mut [u8],
 ) -> io::Result<()> {
     let mut state = [0u32; JOB_WORDS];
-    let mut i = 0;
-    while i <= text.len() {
+    for _ in 0..=text.len() {
         let a = next_seed(&mut state, text, words, bytes);
         if !say_answer(rt, a)? {
-            return Ok(());
+            break;
         }
-        i += 1;
     }
     Ok(())
 }

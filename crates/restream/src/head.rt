@@ -1,25 +1,12 @@
 // The numbers of a line, in decimal.
 ghost use Rattle.std.specs.Prelude.{◌+◌, ◌<◌, ◌^◌, ◌≤◌, length};
 
-fn is_digit(b: u8) -> bool {
-    match b {
-        48..=57 => true,
-        _ => false,
-    }
-}
-
 // Where the digits end that begin at `at`.
 pub(crate) fn number_end(s: &[u8], at: usize) -> usize
     ensures { result ≤ at + length s.now }
 {
-    let mut i = at;
-    while i < s.len() {
-        if !is_digit(s[i]) {
-            return i;
-        }
-        i += 1;
-    }
-    i
+    let digits = s.iter().skip(at).take_while(|b| b.is_ascii_digit());
+    at + digits.count()
 }
 
 // A number with one more digit. Behind 100,000,000 no more digits count: no room is so large.
@@ -32,20 +19,12 @@ fn with_digit(n: u32, digit: u8) -> u32 {
 
 // The number whose digits begin at `at`.
 pub(crate) fn read_number(s: &[u8], at: usize) -> u32 {
-    let mut n: u32 = 0;
-    let mut i = at;
-    while i < s.len() {
-        if !is_digit(s[i]) {
+    let mut n = 0;
+    for b in s.iter().skip(at) {
+        if !b.is_ascii_digit() {
             return n;
         }
-        n = with_digit(n, s[i]);
-        i += 1;
+        n = with_digit(n, *b);
     }
     n
-}
-
-pub(crate) fn least(a: usize, b: usize) -> usize
-    ensures { (result ≤ a) × (result ≤ b) }
-{
-    if a < b { a } else { b }
 }

@@ -9,7 +9,7 @@ mod taken;
 ghost use Rattle.std.specs.Prelude.{◌<◌, ◌^◌, ◌≤◌, length};
 
 use handed::say_job;
-use head::{least, number_end, read_number};
+use head::{number_end, read_number};
 use records::RECORD_WORDS;
 use std::io;
 use stream::LEAST_RECORDS;
@@ -40,8 +40,8 @@ fn read_asked(line: &[u8], text: &mut [u8], words: usize, bytes: usize) -> Asked
     let to = number_end(line, from);
     Asked {
         size: n,
-        words: least(read_number(line, from) as usize, words),
-        bytes: least(read_number(line, to + 7) as usize, bytes),
+        words: (read_number(line, from) as usize).min(words),
+        bytes: (read_number(line, to + 7) as usize).min(bytes),
         job: number_end(line, to + 7) < line.len(),
     }
 }
@@ -73,23 +73,24 @@ fn restream_line(
 {
     let mut space = [0u8; MOST_TEXT];
     let h = read_asked(line, &mut space, words.len(), bytes.len());
-    let n = h.size;
-    let w = h.words;
-    let b = h.bytes;
+    let text = &space[..h.size];
     rt.write_all(line)?;
     rt.write_all(b" => ")?;
-    say_text(rt, &space[0..n], &mut words[0..w], &mut bytes[0..b], h.job)
+    say_text(
+        rt,
+        text,
+        &mut words[..h.words],
+        &mut bytes[..h.bytes],
+        h.job,
+    )
 }
 
 // The rooms hold what the text before left there.
 fn restream_all(rt: &HostRuntime, s: &[u8], words: &mut [u32], bytes: &mut [u8]) -> io::Result<()>
     requires { length bytes.old ≤ 16_128 }
 {
-    let mut at = 0;
-    while at < s.len() {
-        let end = line_end(s, at);
-        restream_line(rt, &s[at..end], words, bytes)?;
-        at = end + 1;
+    for line in s.split_inclusive(|b| *b == b'\n') {
+        restream_line(rt, &line[..line_end(line, 0)], words, bytes)?;
     }
     Ok(())
 }
@@ -104,7 +105,7 @@ fn restream_input(
     requires { length bytes.old ≤ 16_128 }
 {
     let n = read_input(rt, space)?;
-    restream_all(rt, &space[0..n], words, bytes)
+    restream_all(rt, &space[..n], words, bytes)
 }
 
 fn main(rt: HostRuntime) -> io::Result<()> {

@@ -2,7 +2,6 @@
 ghost use Rattle.std.specs.Prelude.{◌+◌, ◌<◌, ◌^◌, ◌≤◌, length};
 
 use crate::MOST_BYTES;
-use crate::head::least;
 use driver::held::HELD_WORDS;
 use printing::say_numbers;
 use records::RECORD_WORDS;
@@ -11,13 +10,7 @@ use std::io;
 use stream::{Next, next_token};
 use vectors::{behind, put_hex};
 use yaml_lexeme::Kind;
-
-fn is_token(a: Next) -> bool {
-    match a {
-        Next::Token => true,
-        _ => false,
-    }
-}
+use yaml_text::Refusal;
 
 // How many tokens are given before the first call that gives none. By demand 3 there are no more than are counted here.
 fn count_tokens(text: &[u8], words: &mut [u32], bytes: &mut [u8]) -> u32
@@ -26,15 +19,13 @@ fn count_tokens(text: &[u8], words: &mut [u32], bytes: &mut [u8]) -> u32
     let mut held = [0u32; HELD_WORDS];
     let mut token = [0u32; RECORD_WORDS];
     let most = 2 * text.len() as u32 + 4;
-    let mut n: u32 = 0;
-    while n < most {
-        let a = next_token(&mut held, text, words, bytes, &mut token);
-        if !is_token(a) {
-            return n;
+    for n in 0..most {
+        match next_token(&mut held, text, words, bytes, &mut token) {
+            Ok(Next::Token) => {}
+            _ => return n,
         }
-        n += 1;
     }
-    n
+    most
 }
 
 // Where a text ends.
@@ -42,19 +33,13 @@ fn text_end(offset: u32, len: u32) -> usize {
     offset as usize + len as usize
 }
 
-fn larger(a: usize, b: usize) -> usize {
-    if a < b { b } else { a }
-}
-
 // How many bytes hold the texts of the tokens up to this one. A version has numbers where others have texts.
 fn used_behind(used: usize, token: [u32; RECORD_WORDS]) -> usize {
     if token[0] == kind_number(Kind::VersionDirective { major: 0, minor: 0 }) {
         return used;
     }
-    larger(
-        used,
-        larger(text_end(token[7], token[8]), text_end(token[9], token[10])),
-    )
+    used.max(text_end(token[7], token[8]))
+        .max(text_end(token[9], token[10]))
 }
 
 // Writes a record, and a byte behind it.
@@ -74,7 +59,7 @@ fn say_token(
     end: u8,
 ) -> io::Result<usize> {
     let mut token = [0u32; RECORD_WORDS];
-    next_token(held, text, words, bytes, &mut token);
+    let _ = next_token(held, text, words, bytes, &mut token);
     say_record(rt, token, end)?;
     Ok(used_behind(used, token))
 }
@@ -89,10 +74,8 @@ fn say_tokens(
     n: u32,
 ) -> io::Result<usize> {
     let mut used = 0;
-    let mut i: u32 = 0;
-    while i < n {
+    for i in 0..n {
         used = say_token(rt, held, text, words, bytes, used, behind(n - i - 1))?;
-        i += 1;
     }
     Ok(used)
 }
@@ -103,19 +86,19 @@ fn say_bytes(rt: &HostRuntime, bytes: &[u8]) -> io::Result<()>
 {
     let mut out = [0u8; 2 * MOST_BYTES];
     let n = put_hex(&mut out, 0, bytes);
-    rt.write_all(&out[0..n])
+    rt.write_all(&out[..n])
 }
 
 // Writes an answer that is no token.
-fn say_answer(rt: &HostRuntime, a: Next, end: u8) -> io::Result<()> {
+fn say_answer(rt: &HostRuntime, a: Result<Next, Refusal>, end: u8) -> io::Result<()> {
     match a {
-        Next::Refused(f) => {
+        Err(f) => {
             let m = f.mark;
             rt.write_all(b"R ")?;
             say_numbers(&[f.number, m.index, m.line, m.col], end);
             Ok(())
         }
-        _ => rt.write_all(&[b'E', end]),
+        Ok(_) => rt.write_all(&[b'E', end]),
     }
 }
 
@@ -149,8 +132,7 @@ fn say_count(rt: &HostRuntime, text: &[u8], words: &mut [u32], bytes: &mut [u8])
 fn say_used(rt: &HostRuntime, bytes: &[u8], used: usize) -> io::Result<()>
     requires { length bytes.now ≤ 16_128 }
 {
-    let d = least(used, bytes.len());
-    say_bytes(rt, &bytes[0..d])?;
+    say_bytes(rt, &bytes[..used.min(bytes.len())])?;
     rt.write_all(b"|")
 }
 
@@ -168,7 +150,7 @@ fn say_given(
     let used = say_tokens(rt, &mut held, text, words, bytes, n)?;
     say_used(rt, bytes, used)?;
     say_next(rt, &mut held, text, words, bytes, b'|')?;
-    say_next(rt, &mut held, text, words, bytes, 10)
+    say_next(rt, &mut held, text, words, bytes, b'\n')
 }
 
 // The tokens are counted first, then taken again.

@@ -10,19 +10,22 @@ ghost use Rattle.tokenglade.specs.Numbers.{GivesNumbers, numbers};
 use driver::held::HELD_WORDS;
 use job::{JOB_WORDS, next_seed};
 use records::RECORD_WORDS;
-use scanner::{Answer, scan};
+use scanner::{Refused, Sizes, scan};
 use stream::{Next, next_token};
 use yaml_job::{Closing, JobAnswer};
+use yaml_text::Refusal;
 
 // The refusal's number or 0, its mark, T and D.
-pub fn numbers_of(a: Answer) -> [u32; 6]
+pub fn numbers_of(a: Result<Sizes, Refused>) -> [u32; 6]
     ensures { result ≡ numbers (verdict_of a) }
 {
     match a {
-        Answer::Accepted(t, d) => [0, 0, 0, 0, t, d],
-        Answer::Refused(f, t, d) => {
+        Ok(n) => [0, 0, 0, 0, n.tokens, n.bytes],
+        Err(r) => {
+            let f = r.refusal;
             let m = f.mark;
-            [f.number, m.index, m.line, m.col, t, d]
+            let n = r.sizes;
+            [f.number, m.index, m.line, m.col, n.tokens, n.bytes]
         }
     }
 }
@@ -35,16 +38,15 @@ pub fn tokenglade_scan(text: &[u8], words: &mut [u32], bytes: &mut [u8], answer:
 }
 
 // The numbers of a call's answer.
-fn next_numbers(a: Next) -> [u32; 5]
+fn next_numbers(a: Result<Next, Refusal>) -> [u32; 5]
     ensures { result ≡ next_numbers a }
 {
     match a {
-        Next::Refused(f) => {
+        Ok(_) => [0; 5],
+        Err(f) => {
             let m = f.mark;
             [f.number, m.index, m.line, m.col, 0]
         }
-        Next::Token => [0, 0, 0, 0, 0],
-        Next::Ended => [0, 0, 0, 0, 0],
     }
 }
 
@@ -68,8 +70,7 @@ fn seed_numbers(a: JobAnswer) -> [u32; 2]
 {
     match a {
         JobAnswer::Seed { value, count } => [value, count],
-        JobAnswer::Closed(_) => [0, 0],
-        JobAnswer::Lost => [0, 0],
+        JobAnswer::Closed(_) | JobAnswer::Lost => [0, 0],
     }
 }
 
@@ -78,7 +79,7 @@ fn closing_numbers(a: JobAnswer) -> [u32; 7]
     ensures { result ≡ closing_numbers a }
 {
     match a {
-        JobAnswer::Seed { .. } => [0, 0, 0, 0, 0, 0, 0],
+        JobAnswer::Seed { .. } => [0; 7],
         JobAnswer::Closed(c) => closed_numbers(c),
         JobAnswer::Lost => [2, 0, 0, 0, 0, 0, 0],
     }

@@ -6,7 +6,8 @@ mod write;
 ghost use Rattle.std.specs.Prelude.{◌≡◌, ◌*◌, ◌+◌, ◌<◌, ◌^◌, ◌≤◌, min, IfOk, drop, length};
 ghost use Rattle.yaml_lexeme.specs.Record.{record_words};
 ghost use Rattle.vectors.specs.Hex.{ByteOf, DigitOf, ReadHex};
-ghost use Rattle.vectors.specs.Line.{line_length};
+ghost use Rattle.std.specs.List.{prefix_len};
+ghost use Rattle.vectors.specs.Line.{in_line, line_length};
 
 use records::RECORD_WORDS;
 use std::io;
@@ -15,7 +16,7 @@ pub use write::{behind, put_accepted, put_head, put_hex, put_refused};
 
 // How many bytes stand before the first line feed, or before the end.
 fn line_len(s: &[u8]) -> usize
-    ensures { result ≡ line_length s.now }
+    ensures { result ≡ prefix_len in_line s.now }
 {
     s.iter().take_while(|b| **b != b'\n').count()
 }
