@@ -38,13 +38,7 @@ fn put_answer(out: &mut [u8], a: Result<Sizes, Refused>, words: &[u32]) -> usize
         Err(r) => {
             let f = r.refusal;
             let m = f.mark;
-            put_numbers(
-                out,
-                0,
-                &[f.number, m.index, m.line, m.col],
-                b' ',
-                b'\n',
-            )
+            put_numbers(out, 0, &[f.number, m.index, m.line, m.col], b' ', b'\n')
         }
     }
 }

@@ -4,9 +4,8 @@ use Rattle.yaml_text.specs.Test.{by_test}
 use Rattle.vectors.specs.Line.{line_fits, line_length, line_prefix}
 use Rattle.vectors.proofs.line_end.Goals as goal
 
-rest_is : (s : List ℕ) (at : ℕ) → let m = min at (length s) in take (length s - m) (drop m s) ≡ drop at s
-rest_is s at =
-    let m = min at (length s) in
+rest_is : (s : List ℕ) (at m : ℕ) → m ≡ min at (length s) → take (length s - m) (drop m s) ≡ drop at s
+rest_is s at m g =
     take_all (length s - m) (drop m s) (omega (arith, length-drop m s))
     ∙ by_test (ltb at (length s))
     (λ e. let h = ltb-true at (length s) e in let f : m ≡ at = omega arith in rw f)
@@ -17,7 +16,7 @@ rest_is s at =
     rw (f, p, q))
 
 length_is : (c : goal.After-line_len) → c.line_len.result ≡ line_length (drop c.args.at c.args.s.now)
-length_is c = c.line_len.ensures ∙ line_prefix _ ∙ ap line_length (rest_is c.args.s.now c.args.at)
+length_is c = c.line_len.ensures ∙ line_prefix _ ∙ ap line_length (rest_is c.args.s.now c.args.at c.min.result c.min.ensures)
 
 pub overflow_add-result : goal.overflow_add-result
 overflow_add-result c =
