@@ -26,8 +26,8 @@ use Rattle.chars.specs.View.{Moves, Stands, past, view}
 use Rattle.chars.specs.Places.{moves_along, moves_none}
 use Rattle.chars.specs.Reach.{more, reach_one}
 use Rattle.block_header.proofs.Tests.{or_no}
-use Rattle.block_header.specs.declared.header.Headed.{Headed}
-use Rattle.block_header.specs.declared.header.Headed.TheVariants.{Got, Zero}
+use Rattle.std.specs.Prelude.{Option, Some, None}
+use Rattle.block_header.specs.declared.header.Header.{Header}
 use Rattle.block_header.specs.Header.{Heads, BehindHeader, headed_by, seen_header}
 
 -- the header where an increment is known
@@ -46,17 +46,17 @@ headed_seen : (start : Mark) (text : List ℕ) (k : Chomping) (d : ℕ) (p : Pla
 unfolding seen_header headed_by increment_of ◌>>=◌
 headed_seen start text k d p e = by_test (eqb d '0') (λ f. rw (e, f)) (λ f. rw (e, f))
 
-module _ {text : List ℕ} {p q : Place} {r : Headed} {e : place.Place} (w : Moves text p q e) where
+module _ {text : List ℕ} {p q : Place} {r : Option Header} {e : place.Place} (w : Moves text p q e) where
   heads_digit : (k : Chomping) (d : ℕ) → r ≡ headed_by k d q → is_digit d ≡ true → ((start : Mark) → indicators start (view text p) ≡ with start k d e)
       → Heads text p r
   unfolding headed_by
   heads_digit k d f g h =
       record {
         same = λ start. rw (f, headed_seen start text k d q g, w.same) (sym (h start));
-        onward = rw f (by_pick (BehindHeader text p) (eqb d '0') Zero (Got (record { chomping = k; increment = d - '0'; place = q })) tt (w.stands, w.onward, digit_small d g));
+        onward = rw f (by_pick (BehindHeader text p) (eqb d '0') None (Some (record { chomping = k; increment = d - '0'; place = q })) tt (w.stands, w.onward, digit_small d g));
       }
 
-  heads_none : {k : Chomping} → r ≡ Got (record { chomping = k; increment = 0; place = q })
+  heads_none : {k : Chomping} → r ≡ Some (record { chomping = k; increment = 0; place = q })
       → ((start : Mark) → indicators start (view text p) ≡ got (record { chomping = k; increment = 0; place = e })) → Heads text p r
   unfolding seen_header
   heads_none f h = record { same = λ start. rw (f, w.same) (sym (h start)); onward = rw f (w.stands, w.onward, omega arith) }
@@ -107,7 +107,7 @@ module _ {s : List ℕ} {p : Place} (h : Stands s p) {c d : ℕ} (e : c ≡ get_
   second : {t : ℕ → Bool} → Ascii t → CharAt s p.at c 1 → t (peek (chars (drop p.at s)) 1) ≡ t d
   second a x = rw x.next (ascii_at s (p.at + 1) d f a)
 
-  module _ {q : Place} {r : Headed} {k : Chomping} where
+  module _ {q : Place} {r : Option Header} {k : Chomping} where
     pub heads_chomp_digit : is_chomp c ≡ true → is_digit d ≡ true → k ≡ chomping_of c → q ≡ past p 2 (along_by 2 p.mark) → r ≡ headed_by k d q → Heads s p r
     heads_chomp_digit g i l m n =
         let x = ascii_char s p.at c e chomp_ascii g in
@@ -117,7 +117,7 @@ module _ {s : List ℕ} {p : Place} (h : Stands s p) {c d : ℕ} (e : c ≡ get_
         heads_digit (moved_two x y m) k d n i (λ start. rw (j, o, ← l) at (chomp_digit start (view s p) (rw j g) (rw o i)))
 
     pub heads_chomp : is_chomp c ≡ true → is_digit d ≡ false → k ≡ chomping_of c → q ≡ past p 1 (along p.mark)
-        → r ≡ Got (record { chomping = k; increment = 0; place = q }) → Heads s p r
+        → r ≡ Some (record { chomping = k; increment = 0; place = q }) → Heads s p r
     heads_chomp g i l m n =
         let x = ascii_char s p.at c e chomp_ascii g in
         let j : peek (chars (drop p.at s)) 0 ≡ c = rw x.next in
@@ -139,6 +139,6 @@ module _ {s : List ℕ} {p : Place} (h : Stands s p) {c d : ℕ} (e : c ≡ get_
         let o : chomping_of (peek (chars (drop p.at s)) 1) ≡ k = clip_other _ u ∙ sym (l ∙ clip_other d t) in
         heads_digit (moved_one x m) k c n i (λ start. rw (j, o) at (digit_only start (view s p) (rw j g) (rw j i) u))
 
-  pub heads_nothing : {r : Headed} → is_chomp c ≡ false → is_digit c ≡ false → r ≡ Got (record { chomping = Clip; increment = 0; place = p }) → Heads s p r
+  pub heads_nothing : {r : Option Header} → is_chomp c ≡ false → is_digit c ≡ false → r ≡ Some (record { chomping = Clip; increment = 0; place = p }) → Heads s p r
   heads_nothing g i n =
       heads_none (moves_none h) n (λ start. neither start (view s p) (ascii_at s p.at c e chomp_ascii ∙ g) (ascii_at s p.at c e digit_ascii ∙ i))

@@ -13,52 +13,46 @@ use yaml_lexeme::Chomping;
 #[derive(Clone, Copy)]
 pub struct Header {
     pub chomping: Chomping,
-    // The indentation indicator; 0: none.
+    // The indentation indicator; 0: none, as `content_column` of the definition takes it.
     pub increment: u32,
     pub place: Place,
 }
 
-#[derive(Clone, Copy)]
-pub enum Headed {
-    Got(Header),
-    // The indicator 0.
-    Zero,
-}
-
+#[tactic(auto, unfolding(yaml_lexeme::specs::Block::is_chomp))]
 fn is_chomp(c: u8) -> bool
     ensures { result ≡ is_chomp c }
 {
     (c == b'+') | (c == b'-')
 }
 
+#[tactic(auto, unfolding(yaml_lexeme::specs::Block::chomping_of))]
 fn chomping_of(c: u8) -> Chomping
     ensures { result ≡ chomping_of c }
 {
-    if c == b'+' {
-        return Chomping::Keep;
+    match c {
+        b'+' => Chomping::Keep,
+        b'-' => Chomping::Strip,
+        _ => Chomping::Clip,
     }
-    if c == b'-' {
-        return Chomping::Strip;
-    }
-    Chomping::Clip
 }
 
-fn by_digit(chomping: Chomping, digit: u8, place: Place) -> Headed
+#[tactic(auto, unfolding(crate::specs::Header::headed_by), using(crate::proofs::Headers::digit_least))]
+fn by_digit(chomping: Chomping, digit: u8, place: Place) -> Option<Header>
     requires { is_digit digit ≡ true }
     ensures { result ≡ headed_by chomping digit place }
 {
     if digit == b'0' {
-        return Headed::Zero;
+        return None;
     }
-    Headed::Got(Header {
-        chomping: chomping,
+    Some(Header {
+        chomping,
         increment: (digit - b'0') as u32,
-        place: place,
+        place,
     })
 }
 
-// Chomping and indentation indicator, each at most once, in either order.
-pub fn indicators(text: &[u8], p: Place) -> Headed
+// Chomping and indentation indicator, each at most once, in either order; none where the second is 0.
+pub fn indicators(text: &[u8], p: Place) -> Option<Header>
     requires { Stands text.now p }
     ensures { Heads text.now p result }
 {
@@ -70,7 +64,7 @@ pub fn indicators(text: &[u8], p: Place) -> Headed
         if is_digit(d as u32) {
             return by_digit(k, d, p.skip_n_non_blank(2));
         }
-        return Headed::Got(Header {
+        return Some(Header {
             chomping: k,
             increment: 0,
             place: p.skip_blank(),
@@ -83,7 +77,7 @@ pub fn indicators(text: &[u8], p: Place) -> Headed
         }
         return by_digit(k, c, p.skip_blank());
     }
-    Headed::Got(Header {
+    Some(Header {
         chomping: Chomping::Clip,
         increment: 0,
         place: p,

@@ -1,5 +1,5 @@
 // Where the content of a block scalar begins, by its column (8.1.1.1, and K7).
-ghost use Rattle.std.specs.Prelude.{◌<◌, ◌^◌, ◌≤◌, max, ◌≡◌, drop};
+ghost use Rattle.std.specs.Prelude.{◌<◌, ◌^◌, ◌≤◌, ◌≡◌, drop};
 ghost use Rattle.yaml_text.specs.Utf8.{chars};
 ghost use Rattle.yaml_lexeme.specs.Block.{content_column, largest, margin};
 ghost use Rattle.chars.specs.View.{Stands, view};
@@ -8,12 +8,6 @@ ghost use Rattle.block_header.specs.Margin.{Margins};
 use chars::class::is_break;
 use chars::mark::{Place, break_length};
 use utf8::byte;
-
-pub fn larger(a: u32, b: u32) -> u32
-    ensures { result ≡ max a b }
-{
-    if a < b { b } else { a }
-}
 
 // The largest column reached by leading spaces up to the first line with other text.
 fn largest_column(text: &[u8], from: Place) -> u32
@@ -29,7 +23,7 @@ fn largest_column(text: &[u8], from: Place) -> u32
             p = p.skip_blank();
             continue;
         }
-        most = larger(most, p.mark.col);
+        most = most.max(p.mark.col);
         if is_break(c as u32) {
             p = p.skip_linebreak(break_length(text, at));
             continue;
@@ -44,7 +38,7 @@ pub fn content_column(text: &[u8], parent: u32, increment: u32, p: Place) -> u32
     ensures { result ≡ content_column parent increment (view text.now p) }
 {
     if increment == 0 {
-        return larger(largest_column(text, p), parent);
+        return largest_column(text, p).max(parent);
     }
     // An indent of -1: the indicator does not add to it.
     if parent == 0 {

@@ -46,10 +46,10 @@ loop-p-preserved c =
     let break : BreakAt (c.args.text.now) (c.loop-p.p) c.break_length.result = break_at c.loop-p.invariant.stands c.byte-c.ensures
     (sym c.is_break.ensures ∙ c.if-is_break.true) c.break_length.ensures in
     let x = break in
-    rw (c.skip_linebreak-p.ensures, c.larger-most.ensures)
+    rw (c.skip_linebreak-p.ensures, c.max-most.ensures)
     (walks_move c.loop-p.invariant x.moves (largest_line _ x))
 
 pub returns-in-loop-p : goal.returns-in-loop-p
 returns-in-loop-p c =
-    rw c.larger-most.ensures
+    rw c.max-most.ensures
     (sym (c.loop-p.invariant.same ∙ largest_end (c.args.text.now) (c.loop-p.p).at _ _ _ c.byte-c.ensures (ne_eqb _ space c.if-c-eq32.false) (sym c.is_break.ensures ∙ c.if-is_break.false)))
