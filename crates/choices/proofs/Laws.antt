@@ -1,21 +1,19 @@
 -- Which token a character begins: the code's tests in a row are the definition's, each of them decided by the tests before it.
 use Prim.Native.Nat.{◌+◌, ◌<◌, ◌≤◌, ℕ}
 use mathlib.Core.Bool.{Bool, ◌&&◌, false, true}
-use mathlib.Core.List.{List, [], ◌∷◌}
-use mathlib.Core.Logic.{inl, inr, ⊎_elim}
+use mathlib.Core.List.{List, []}
 use mathlib.Core.Path.{◌∙◌, ◌≡◌, ap, sym}
 use native.Mathlib.Omega.{arith}
 use lib.Dec.{eqb, ltb}
 use lib.ListN.{drop}
 use borrow.Author.Tests.{le-ltb, lt-ltb, ne_eqb}
-use types.Run.{OneOf}
-use Rattle.yaml_text.specs.Char.{'!', '%', '&', '*', '-', ':', '>', '?', '[', ']', '`', '|', at_sign, byte_order_mark, close_brace, comma, double_quote, open_brace, single_quote}
+use Rattle.yaml_text.specs.Char.{'%', '-', ':', '?', byte_order_mark}
 use Rattle.yaml_text.specs.Class.{among, is_bom, is_z, peek}
 use Rattle.yaml_text.specs.Mark.{edge_of, is_marker}
 use Rattle.yaml_text.specs.Pick.{pick}
 use Rattle.yaml_text.specs.Utf8.{chars}
 use Rattle.yaml_scan.specs.declared.Choice.{Choice}
-use Rattle.yaml_scan.specs.declared.Choice.TheVariants.{AtByteOrderMark, AtColon, AtDash, AtDirective, AtEnd, AtMarker, AtPlain, AtQuestion, BelowIndent, Stray}
+use Rattle.yaml_scan.specs.declared.Choice.TheVariants.{AtByteOrderMark, AtColon, AtDash, AtDirective, AtEnd, AtMarker, AtPlain, AtQuestion, BelowIndent}
 use Rattle.yaml_scan.specs.Choice.{choice, indicator}
 use Rattle.yaml_scan.specs.Value.{takes_colon}
 use Rattle.states.specs.declared.State.{State}
@@ -30,10 +28,6 @@ pub behind_ascii : {text : List ℕ} {s : State} {c : ℕ} → CharHere text s c
 behind_ascii {text} {s} h k = rw (ascii_char text s.place.at h.is k).next
 
 module _ (flow colon : Bool) (c n : ℕ) where
-  pub strays : OneOf ('%' ∷ at_sign ∷ '`' ∷ byte_order_mark ∷ []) c → Stray ≡ indicator flow colon c n
-  unfolding indicator among
-  strays = ⊎_elim (λ e. rw e) (⊎_elim (λ e. rw e) (⊎_elim (λ e. rw e) (λ e. rw e)))
-
   pub dash : c ≡ '-' → dash_or_question flow AtDash n ≡ indicator flow colon c n
   unfolding indicator dash_or_question among
   dash e = rw e
@@ -45,31 +39,6 @@ module _ (flow colon : Bool) (c n : ℕ) where
   pub colons : c ≡ ':' → pick colon AtColon AtPlain ≡ indicator flow colon c n
   unfolding indicator among
   colons e = rw e
-
--- none of those that begin no token
-no_stray : (c : ℕ) → (OneOf ('%' ∷ at_sign ∷ '`' ∷ byte_order_mark ∷ []) c → ⊥) → among c (at_sign ∷ '`' ∷ '%' ∷ byte_order_mark ∷ []) ≡ false
-unfolding among
-no_stray c h =
-    rw (ne_eqb c at_sign (λ e. h (inr (inl e))), ne_eqb c '`' (λ e. h (inr (inr (inl e)))))
-    (rw (ne_eqb c '%' (λ e. h (inl e)), ne_eqb c byte_order_mark (λ e. h (inr (inr (inr e))))))
-
--- none of the numbers, as a match has it behind its arms
-abbrev pub Nots : Type 0 → ℕ → List ℕ → Type 0
-Nots N c [] = N
-Nots N c (k ∷ ks) = Nots (N × (c ≡ k → ⊥)) c ks
-
--- any other character
-pub plain : (flow colon : Bool) (c n : ℕ)
-    → Nots (Unit {0}) c ('[' ∷ open_brace ∷ ']' ∷ close_brace ∷ comma ∷ '-' ∷ '?' ∷ ':' ∷ '*' ∷ '&' ∷ '!' ∷ '|' ∷ '>' ∷ single_quote ∷ double_quote ∷ [])
-    × (OneOf ('%' ∷ at_sign ∷ '`' ∷ byte_order_mark ∷ []) c → ⊥)
-    → AtPlain ≡ indicator flow colon c n
-unfolding indicator
-plain flow colon c n ((((((((((((((((u, k1), k2), k3), k4), k5), k6), k7), k8), k9), k10), k11), k12), k13), k14), k15), h) =
-    rw
-    (ne_eqb c '[' k1, ne_eqb c open_brace k2, ne_eqb c ']' k3, ne_eqb c close_brace k4, ne_eqb c comma k5)
-    (rw
-    (ne_eqb c '-' k6, ne_eqb c '?' k7, ne_eqb c ':' k8, ne_eqb c '*' k9, ne_eqb c '&' k10)
-    (rw (ne_eqb c '!' k11, ne_eqb c '|' k12, ne_eqb c '>' k13, ne_eqb c single_quote k14, ne_eqb c double_quote k15, no_stray c h)))
 
 -- K5, by the character behind the ':'
 pub colon_defined : {text : List ℕ} {s : State} {n : ℕ} {r : Bool} → CharHere text s ':' → n ≡ peek (chars (drop (s.place.at + 1) text)) 0 → r ≡ colon_before s n

@@ -32,6 +32,7 @@ fn takes_colon(text: &[u8], s: State) -> bool
 }
 
 // '-' and '?': before blank, break or end they are indicators; in flow, before a flow indicator, they start no token.
+#[tactic(auto, unfolding(crate::specs::Choice::dash_or_question))]
 fn dash_or_question(text: &[u8], flow: bool, at: usize, found: Choice) -> Choice
     requires { at < 2 ^ 63 }
     ensures { result ≡ dash_or_question flow found (peek (chars (drop (at + 1) text.now)) 0) }

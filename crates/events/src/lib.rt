@@ -5,6 +5,7 @@ ghost use Rattle.std.specs.Prelude.{◌≡◌, ◌<◌, ◌^◌};
 ghost use Rattle.reading.specs.Reading.{text_size};
 ghost use Rattle.events.specs.Event.{Countable, brief_event, closing_of, counted_of, note_size, opening_if, opening_size};
 
+use chars::pick::pick;
 use yaml_lexeme::{Kind, Token};
 
 // What goes in before the candidate, which is the token of that number.
@@ -62,11 +63,15 @@ fn opening_count(o: Opening) -> u32
 {
     match o {
         Opening::Nothing => 0,
-        _ => 1,
+        Opening::BlockSequenceStart
+        | Opening::BlockMappingStart
+        | Opening::FlowMappingStart
+        | Opening::FlowMappingEnd => 1,
     }
 }
 
 // How many bytes the texts of a kind take.
+#[tactic(auto, unfolding(reading::specs::Reading::text_size))]
 fn text_len(k: Kind) -> u32
     requires { text_size k < 2 ^ 32 }
     ensures { result ≡ text_size k }
@@ -88,14 +93,10 @@ impl Counts {
         requires { Countable self e }
         ensures { result ≡ counted_of self e }
     {
-        let opening = e.opening;
-        let note = e.note;
-        let token = e.token;
-        let kind = token.kind;
         Counts {
-            count: self.count + e.closed + opening_count(opening) + 1,
-            put_in: self.put_in + note_count(note),
-            used: self.used + text_len(kind),
+            count: self.count + (e.closed + opening_count(e.opening) + 1),
+            put_in: self.put_in + note_count(e.note),
+            used: self.used + text_len(e.token.kind),
         }
     }
 }
@@ -103,10 +104,7 @@ impl Counts {
 pub fn opening_if(b: bool, o: Opening) -> Opening
     ensures { result ≡ opening_if b o }
 {
-    if b {
-        return o;
-    }
-    Opening::Nothing
+    pick(b, o, Opening::Nothing)
 }
 
 // What is said of one token, behind an empty one or not.

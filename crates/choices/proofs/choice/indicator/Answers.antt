@@ -1,7 +1,7 @@
 -- Each arm is one character, at which the definition's tests compute; the last arm is what none of them names.
 use mathlib.Core.Path.{◌∙◌}
 use native.Mathlib.Omega.{arith}
-use Rattle.choices.proofs.Laws.{behind_ascii, colon_known, colons, dash, plain, question, strays}
+use Rattle.choices.proofs.Laws.{behind_ascii, colon_known, colons, dash, question}
 use Rattle.choices.proofs.choice.indicator.Goals as goal
 
 pub returns-in-45 : goal.returns-in-45
@@ -14,9 +14,3 @@ pub returns-in-58 : goal.returns-in-58
 returns-in-58 c =
     let a = c.args in
     c.pick-in-58.ensures ∙ rw (colon_known a.text.now a.s c.takes_colon.ensures) (colons _ _ _ _ c.in-58.is)
-
-pub returns-in-37 : goal.returns-in-37
-returns-in-37 c = strays _ _ _ _ c.in-37.is
-
-pub returns-in_default : goal.returns-in_default
-returns-in_default c = plain _ _ _ _ c.in_default.in_default-own.rest
