@@ -21,23 +21,18 @@ use yaml_lexeme::Chomping;
 use yaml_text::Decoded;
 
 // A line that opens with a BOM (K1), or at column 0 with a document marker, is no content line.
+#[tactic(auto, unfolding(yaml_lexeme::specs::Block::opens_content))]
 pub fn opens_content(text: &[u8], p: Place) -> bool
     ensures { result ≡ opens_content p.mark (chars (drop p.at text.now)) }
 {
-    let at = p.at;
-    let c = look(text, at);
+    let c = look(text, p.at);
     !is_breakz(c) & !is_bom(c) & !is_marker(text, p)
 }
 
 pub fn ends_at(text: &[u8], at: usize) -> bool
     ensures { result ≡ none_left (chars (drop at text.now)) }
 {
-    let d = char_at(text, at);
-    match d {
-        Decoded::Char { code: _, len: _ } => false,
-        Decoded::Ill => true,
-        Decoded::End => true,
-    }
+    !matches!(char_at(text, at), Decoded::Char { .. })
 }
 
 // What holds for the whole scalar.
@@ -90,23 +85,21 @@ fn after_line(text: &[u8], b: Layout, blank: bool, e: Place, count: usize) -> Co
     requires { LineEnd text.now e count }
     ensures { Rests text.now b blank e count result }
 {
-    let at = e.at;
-    if ends_at(text, at) {
+    if ends_at(text, e.at) {
         return Content {
             place: e,
             line: Between::Ahead { lines: 0 },
-            count: count,
+            count,
         };
     }
     let g = skip_margin(text, skip_break(text, e), b.column);
-    let q = g.place;
     Content {
-        place: q,
+        place: g.place,
         line: Between::Behind {
-            blank: blank,
+            blank,
             lines: g.breaks,
         },
-        count: count,
+        count,
     }
 }
 
@@ -115,15 +108,12 @@ fn content_line(text: &[u8], b: Layout, c: Content, out: &mut [u8]) -> Content
     requires { OpensContent text.now b c }
     ensures { Reads text.now b out.old c out.new result (line_at text.now b c) × (c.place.at < result.place.at) }
 {
-    let p = c.place;
-    let l = c.line;
-    let at = p.at;
+    let at = c.place.at;
     let blank = is_blank(look(text, at));
-    let n = put_separator(out, c.count, b.literal, blank, l);
-    let e = run_to_break(text, p);
-    let to = e.at;
-    copy(out, n, &text[at..to]);
-    after_line(text, b, blank, e, n + (to - at))
+    let n = put_separator(out, c.count, b.literal, blank, c.line);
+    let e = run_to_break(text, c.place);
+    copy(out, n, &text[at..e.at]);
+    after_line(text, b, blank, e, n + (e.at - at))
 }
 
 // The content from behind the first margin on, without its end.
@@ -131,26 +121,15 @@ pub fn read_content(text: &[u8], b: Layout, from: Margin, out: &mut [u8]) -> Con
     requires { Settles text.now b (first_of from) }
     ensures { Reads text.now b out.old (first_of from) out.new result (lines_of text.now b (first_of from)) }
 {
-    let q = from.place;
     let mut c = Content {
-        place: q,
+        place: from.place,
         line: Between::Ahead { lines: from.breaks },
         count: 0,
     };
-    loop {
-        let p = c.place;
-        if (p.mark.col == b.column) & opens_content(text, p) {
-            c = content_line(text, b, c, out);
-        } else {
-            return c;
-        }
+    while (c.place.mark.col == b.column) & opens_content(text, c.place) {
+        c = content_line(text, b, c, out);
     }
-}
-
-pub fn one_if(b: bool) -> u32
-    ensures { (result ≡ definition.one_if b) × (result ≤ 1) }
-{
-    if b { 1 } else { 0 }
+    c
 }
 
 // How many line feeds stand behind the content. last: the text ends in a line that has no break.
@@ -158,7 +137,7 @@ pub fn chomped(chomping: Chomping, last: bool, line: Between) -> u32
     requires { pending line < 2 ^ 31 }
     ensures { (definition.chomped chomping last (definition.between (line_of line)) ≡ replicate result line_feed) × (result ≤ pending line + 1) }
 {
-    let extra = one_if(last);
+    let extra = u32::from(last);
     match chomping {
         Chomping::Strip => 0,
         Chomping::Clip => own_break(line) + extra,
@@ -166,20 +145,21 @@ pub fn chomped(chomping: Chomping, last: bool, line: Between) -> u32
     }
 }
 
+#[tactic(auto, unfolding(crate::specs::Content::own_of))]
 fn own_break(line: Between) -> u32
     ensures { result ≡ own_of line }
 {
     match line {
-        Between::Ahead { lines: _ } => 0,
-        Between::Behind { blank: _, lines: _ } => 1,
+        Between::Ahead { .. } => 0,
+        Between::Behind { .. } => 1,
     }
 }
 
+#[tactic(auto, unfolding(crate::specs::Content::more_of))]
 fn lines_after(line: Between) -> u32
     ensures { result ≡ more_of line }
 {
     match line {
-        Between::Ahead { lines } => lines,
-        Between::Behind { blank: _, lines } => lines,
+        Between::Ahead { lines } | Between::Behind { lines, .. } => lines,
     }
 }

@@ -18,8 +18,7 @@ use Rattle.yaml_lexeme.specs.Gap.{blanks_and_comment}
 use Rattle.yaml_lexeme.specs.Token.{Lexeme, Scalar, lexeme, size}
 use Rattle.chars.specs.declared.mark.Place.{Place}
 use Rattle.chars.specs.View.{Stands, view}
-use Rattle.reading.specs.declared.Reading.{Reading}
-use Rattle.reading.specs.declared.Reading.TheVariants as reading
+use Rattle.reading.specs.declared.Lexeme.{Lexeme as Answer}
 use Rattle.block_scalars.specs.declared.Block.{Block}
 use Rattle.block_content.specs.declared.Layout.{Layout}
 use Rattle.block_header.specs.declared.header.Header.{Header}
@@ -29,9 +28,9 @@ use Rattle.block_content.specs.Content.{content_at}
 abbrev pub style_of : Block → Style
 style_of k = pick k.literal Literal Folded
 
-abbrev pub scalar_token : Block → ℕ → Mark → Place → Reading
+abbrev pub scalar_token : Block → ℕ → Mark → Place → Answer
 scalar_token k n start p =
-    reading.Got (record { token = record { kind = kind.Scalar (style_of k) (record { at = k.used; len = n % 2 ^ 32 }); start = start; end = p.mark }; next = p })
+    record { token = record { kind = kind.Scalar (style_of k) (record { at = k.used; len = n % 2 ^ 32 }); start = start; end = p.mark }; next = p }
 
 -- a scalar of a run's text
 abbrev pub scalar_lexeme : Block → Mark → Run → Lexeme
@@ -48,7 +47,7 @@ abbrev pub empty_lexeme : List ℕ → Block → Layout → Margin → Lexeme
 empty_lexeme text k b g = scalar_lexeme k k.start (record { text = empty_text k b g; place = view text g.place })
 
 -- what code answers and writes for it, in no more bytes than lines ended, and one
-pub record Empties (k : Block) (b : Layout) (g : Margin) (before after : List ℕ) (r : Reading) : Type 0 where
+pub record Empties (k : Block) (b : Layout) (g : Margin) (before after : List ℕ) (r : Answer) : Type 0 where
   pub same : r ≡ scalar_token k (size (empty_text k b g)) k.start g.place
   pub bytes : after ≡ sets before 0 (encode (empty_text k b g))
   pub few : size (empty_text k b g) ≤ g.breaks + 1

@@ -8,20 +8,23 @@ ghost use Rattle.yaml_text.specs.Refusal.{got};
 ghost use Rattle.yaml_lexeme.specs.declared.Style.TheVariants.{Folded, Literal};
 ghost use Rattle.yaml_lexeme.specs.Block as definition;
 ghost use Rattle.chars.specs.View.{view};
+ghost use Rattle.reading.specs.Answers.{Reads};
 ghost use Rattle.reading.specs.Reading.{Indicated, Lexes, first_at};
 ghost use Rattle.block_content.specs.Content.{Settles, first_of, layout_of};
 ghost use Rattle.block_scalars.specs.Scan.{Empties, HeaderRead, after_header, content_lexeme, header_end, header_of, margin_of, scalar_token, under_header};
 
-use block_content::{Layout, chomped, ends_at, one_if, opens_content, read_content};
-use block_header::header::{Headed, Header, indicators};
-use block_header::margin::{Margin, content_column, larger, skip_margin};
+use block_content::{Layout, chomped, ends_at, opens_content, read_content};
+use block_header::header::{Header, indicators};
+use block_header::margin::{Margin, content_column, skip_margin};
 use chars::class::is_breakz;
 use chars::mark::{Place, skip_break};
+use chars::pick::pick;
+use chars::refuse::refuse;
 use gaps::blanks_and_comment;
-use reading::{Reached, Reading, pass_on, put_breaks, refuse_out, text_at};
+use reading::{Lexeme, clear_refused, put_breaks, text_at};
 use utf8::{byte, look};
 use yaml_lexeme::{Chomping, Kind, Style};
-use yaml_text::Mark;
+use yaml_text::{Mark, Refusal};
 
 // What a block scalar is read with. parent: the block's own indent + 1; used: how many bytes of text stand before its own.
 #[derive(Clone, Copy)]
@@ -32,46 +35,25 @@ pub struct Block {
     pub used: u32,
 }
 
-fn block_style(literal: bool) -> Style
-    ensures { result ≡ pick literal Literal Folded }
-{
-    if literal {
-        return Style::Literal;
-    }
-    Style::Folded
-}
-
 // A scalar of n bytes that ends at p.
-fn scalar(k: Block, n: usize, start: Mark, p: Place) -> Reading
+fn scalar(k: Block, n: usize, start: Mark, p: Place) -> Lexeme
     ensures { result ≡ scalar_token k n start p }
 {
-    let end = p.mark;
-    reading::got(
-        Kind::Scalar {
-            style: block_style(k.literal),
-            text: text_at(k.used, n),
-        },
-        start,
-        end,
-        p,
-    )
+    let style = pick(k.literal, Style::Literal, Style::Folded);
+    let text = text_at(k.used, n);
+    Lexeme::new(Kind::Scalar { style, text }, start, p.mark, p)
 }
 
 // The content, chomped.
-fn content_scalar(text: &[u8], k: Block, b: Layout, g: Margin, out: &mut [u8]) -> Reading
+fn content_scalar(text: &[u8], k: Block, b: Layout, g: Margin, out: &mut [u8]) -> Lexeme
     requires { Settles text.now b (first_of g) }
-    ensures { Lexes text.now out.old out.new k.used result (got (content_lexeme text.now k b g)) }
+    ensures { Reads text.now out.old out.new k.used (Ok result) (got (content_lexeme text.now k b g)) }
 {
-    let q = g.place;
-    let start = q.mark;
     let c = read_content(text, b, g, out);
     let p = c.place;
-    let l = c.line;
-    let h = b.chomping;
-    let at = p.at;
-    let last = ends_at(text, at) & (larger(b.column, 1) <= p.mark.col);
-    let n = put_breaks(out, c.count, chomped(h, last, l));
-    scalar(k, n, start, p)
+    let last = ends_at(text, p.at) & (b.column.max(1) <= p.mark.col);
+    let n = put_breaks(out, c.count, chomped(b.chomping, last, c.line));
+    scalar(k, n, g.place.mark, p)
 }
 
 // How many line feeds the text is where the whole text ends before any content, n lines after the header's. part: in a line that is not empty.
@@ -83,7 +65,7 @@ fn no_content(chomping: Chomping, n: u32, part: bool) -> u32
         Chomping::Clip => 0,
         Chomping::Keep => {
             if n == 0 {
-                return one_if(part);
+                return u32::from(part);
             }
             n
         }
@@ -91,79 +73,84 @@ fn no_content(chomping: Chomping, n: u32, part: bool) -> u32
 }
 
 // The scalar of a text that ends before any content.
-fn empty_scalar(k: Block, b: Layout, g: Margin, out: &mut [u8]) -> Reading
+fn empty_scalar(k: Block, b: Layout, g: Margin, out: &mut [u8]) -> Lexeme
     ensures { Empties k b g out.old out.new result }
 {
-    let p = g.place;
-    let m = k.start;
-    let h = b.chomping;
-    let part = (m.line < p.mark.line) & (0 < p.mark.col);
-    let n = put_breaks(out, 0, no_content(h, g.breaks, part));
-    scalar(k, n, m, p)
+    let m = g.place.mark;
+    let part = (k.start.line < m.line) & (0 < m.col);
+    let n = put_breaks(out, 0, no_content(b.chomping, g.breaks, part));
+    scalar(k, n, k.start, g.place)
 }
 
 // 32: the first content column is above the parent's but below its own indent.
-fn content_under(text: &[u8], k: Block, b: Layout, g: Margin, out: &mut [u8]) -> Reading
+fn content_under(text: &[u8], k: Block, b: Layout, g: Margin, out: &mut [u8]) -> Result<Lexeme, Refusal>
     requires { Settles text.now b (first_of g) }
-    ensures { Lexes text.now out.old out.new k.used result (definition.block_content (layout_of b) (pick k.literal Literal Folded) k.parent k.start (margin_of text.now g)) }
+    ensures { Reads text.now out.old out.new k.used result (definition.block_content (layout_of b) (pick k.literal Literal Folded) k.parent k.start (margin_of text.now g)) }
 {
     let p = g.place;
     let m = p.mark;
-    let at = p.at;
-    if ends_at(text, at) {
-        return empty_scalar(k, b, g, out);
+    if ends_at(text, p.at) {
+        return Ok(empty_scalar(k, b, g, out));
     }
     if opens_content(text, p) & (m.col < b.column) & (k.parent <= m.col) {
-        return refuse_out(32, m, out);
+        return refuse(32, m);
     }
-    content_scalar(text, k, b, g, out)
+    Ok(content_scalar(text, k, b, g, out))
 }
 
 // Behind the header's break. 31: a tab right there.
-fn under_header(text: &[u8], k: Block, h: Header, q: Place, out: &mut [u8]) -> Reading
+fn under_header(text: &[u8], k: Block, h: Header, q: Place, out: &mut [u8]) -> Result<Lexeme, Refusal>
     requires { HeaderRead text.now k h q }
-    ensures { Lexes text.now out.old out.new k.used result (under_header k (header_of text.now h) (view text.now q)) }
+    ensures { Reads text.now out.old out.new k.used result (under_header k (header_of text.now h) (view text.now q)) }
 {
-    let at = q.at;
-    if byte(text, at) == b'\t' {
-        return refuse_out(31, k.start, out);
+    if byte(text, q.at) == b'\t' {
+        return refuse(31, k.start);
     }
-    let c = h.chomping;
     let column = content_column(text, k.parent, h.increment, q);
     let b = Layout {
         literal: k.literal,
-        chomping: c,
-        column: column,
+        chomping: h.chomping,
+        column,
     };
     content_under(text, k, b, skip_margin(text, q, column), out)
 }
 
 // Behind the header's blanks and comment. 30: anything but its break.
-fn header_end(text: &[u8], k: Block, h: Header, e: Place, out: &mut [u8]) -> Reading
+fn header_end(text: &[u8], k: Block, h: Header, e: Place, out: &mut [u8]) -> Result<Lexeme, Refusal>
     requires { HeaderRead text.now k h e }
-    ensures { Lexes text.now out.old out.new k.used result (header_end k (header_of text.now h) (view text.now e)) }
+    ensures { Reads text.now out.old out.new k.used result (header_end k (header_of text.now h) (view text.now e)) }
 {
-    let at = e.at;
-    if is_breakz(look(text, at)) {
+    if is_breakz(look(text, e.at)) {
         return under_header(text, k, h, skip_break(text, e), out);
     }
-    refuse_out(30, k.start, out)
+    refuse(30, k.start)
 }
 
 // Behind the header's indicators.
-fn after_header(text: &[u8], k: Block, h: Header, out: &mut [u8]) -> Reading
+fn after_header(text: &[u8], k: Block, h: Header, out: &mut [u8]) -> Result<Lexeme, Refusal>
     requires { HeaderRead text.now k h h.place }
-    ensures { Lexes text.now out.old out.new k.used result (after_header k (header_of text.now h)) }
+    ensures { Reads text.now out.old out.new k.used result (after_header k (header_of text.now h)) }
 {
-    let p = h.place;
-    let r = blanks_and_comment(text, p);
-    match r {
-        Reached::Refused(f) => pass_on(f, out),
-        Reached::To(e) => header_end(text, k, h, e, out),
-    }
+    let e = blanks_and_comment(text, h.place)?;
+    header_end(text, k, h, e, out)
 }
 
-// From its indicator. 29: the indicator 0. parent: the block's own indent + 1.
+// From its indicator. 29: the indicator 0.
+fn read_scalar(text: &[u8], k: Block, out: &mut [u8]) -> Result<Lexeme, Refusal>
+    requires { Indicated text.now k.start k.used × (k.parent < 2 ^ 21) }
+    ensures { Reads text.now out.old out.new k.used result (definition.scan_block_scalar k.literal k.parent (view text.now (first_at k.start))) }
+{
+    let first = Place {
+        at: 0,
+        mark: k.start,
+    };
+    let Some(h) = indicators(text, first.skip_blank()) else {
+        return refuse(29, k.start);
+    };
+    after_header(text, k, h, out)
+}
+
+// parent: the block's own indent + 1.
 pub fn scan_block_scalar(
     text: &[u8],
     start: Mark,
@@ -171,20 +158,16 @@ pub fn scan_block_scalar(
     parent: u32,
     used: u32,
     out: &mut [u8],
-) -> Reading
+) -> Result<Lexeme, Refusal>
     requires { Indicated text.now start used × (parent < 2 ^ 21) }
     ensures { Lexes text.now out.old out.new used result (definition.scan_block_scalar literal parent (view text.now (first_at start))) }
 {
     let k = Block {
-        start: start,
-        literal: literal,
-        parent: parent,
-        used: used,
+        start,
+        literal,
+        parent,
+        used,
     };
-    let first = Place { at: 0, mark: start };
-    let h = indicators(text, first.skip_blank());
-    match h {
-        Headed::Zero => refuse_out(29, start, out),
-        Headed::Got(g) => after_header(text, k, g, out),
-    }
+    let r = read_scalar(text, k, out);
+    clear_refused(r, out)
 }
