@@ -116,7 +116,7 @@ impl Place {
     }
 }
 
-// How many characters the break at a place takes; 0: no break stands there.
+// How many characters the break at a place takes: none, where no break stands there. A count as in the definition, since readers move on by it.
 pub fn break_length(s: &[u8], at: usize) -> u32
     ensures { result ≡ break_length (chars (drop at s.now)) }
 {

@@ -10,6 +10,6 @@ copied {A} {part} l s n k h e f =
     let m : length part ≡ k = rw f (length-take-le k s (omega arith)) in
     let j : n + (n + k - n) ≡ n + length part = omega arith in
     let full : (length s ≤ k) ⊎ (length l ≤ n + k) =
-        by_test (ltb k (length s)) (λ t. inr (let u = ltb-true k (length s) t in omega arith)) (λ t. inl (ltb-false k (length s) t)) in
+    by_test (ltb k (length s)) (λ t. inr (let u = ltb-true k (length s) t in omega arith)) (λ t. inl (ltb-false k (length s) t)) in
     let stored : sets l n part ≡ sets l n s = rw f (sym (sets_fit s l n k full)) in
     rw (drop-drop, j, ← append_assoc) (sym (sets-eq part l n (omega arith)) ∙ stored)

@@ -14,7 +14,8 @@ pub fn byte(s: &[u8], at: usize) -> u8
     s.get(at).copied().unwrap_or(0)
 }
 
-// How many bytes the character of a lead byte takes, by its leading one bits; 0: it leads none.
+// How many bytes the character of a lead byte takes: none, where it leads none. A count as in the definition, since a reader that stands at a
+// character moves on by it.
 pub fn lead_len(b: u8) -> u32
     ensures { result ≡ len_of b }
 {
@@ -110,7 +111,7 @@ pub fn char_at(s: &[u8], at: usize) -> Decoded
     long_char(s, at)
 }
 
-// The character at a place; 0 where none begins.
+// The character at a place; 0 where none begins, as in the definition's `peek`: classes of characters hold the end of the text as 0.
 pub fn look(s: &[u8], at: usize) -> u32
     ensures { result ≡ peek (chars (drop at s.now)) 0 }
 {

@@ -21,9 +21,7 @@ fn good_len(d: Decoded) -> Option<usize>
     ensures { result ≡ good_len d }
 {
     match d {
-        Decoded::Char { code, len } => {
-            if code == 0 { None } else { Some(len) }
-        }
+        Decoded::Char { code, len } => { if code == 0 { None } else { Some(len) } }
         Decoded::Ill | Decoded::End => None,
     }
 }

@@ -19,7 +19,7 @@ pub loop-at-preserved-then-is_ascii : goal.loop-at-preserved-then-is_ascii
 loop-at-preserved-then-is_ascii c =
     let e = c.min-e.ensures in
     let b = each_block {p = low} {s = c.args.s.now} {at = c.loop-at.at} {e = c.min-e.result} (omega (arith, e)) (omega (arith, e))
-        (sym c.is_ascii.ensures ∙ c.if-is_ascii.true) in
+    (sym c.is_ascii.ensures ∙ c.if-is_ascii.true) in
     (omega (arith, e), c.loop-at.invariant.1 ∙ sound_block b)
 
 pub returns-then-i-e : goal.returns-then-i-e
