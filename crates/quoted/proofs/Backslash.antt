@@ -92,11 +92,11 @@ not_taken p (refused n m) {f} g = let h : f ≡ record { number = n; mark = m } 
 abbrev pub after : List ℕ → Place → List ℕ
 after text p = chars (drop (p.at + 1) text)
 
-module _ (q : Quote) {text : List ℕ} {p : Place} {n : ℕ} (s : Sound text (text_turn p n)) (a : CharAt text p.at backslash 1) (u : q.single ≡ false) where
+module _ (q : Quote) {text : List ℕ} {p : Place} {n : ℕ} (s : Sound text (text_turn (record { count = n; place = p }))) (a : CharAt text p.at backslash 1) (u : q.single ≡ false) where
   -- an escaped break of k characters
   pub joined_turns : (before : List ℕ) {k : ℕ} {r : Result Turned Refusal} → k ≡ break_length (after text p) → 0 < k
       → r ≡ Ok (Goes (record { place = past (past p 1 (along p.mark)) k (new_line k (along p.mark)); mode = mode.Escaped; count = n }))
-      → Advances text q before before (text_turn p n) r
+      → Advances text q before before (text_turn (record { count = n; place = p })) r
   unfolding mode_of encode
   joined_turns before {k} e h f =
       let m = p.mark in
@@ -120,7 +120,7 @@ module _ (q : Quote) {text : List ℕ} {p : Place} {n : ℕ} (s : Sound text (te
 
   module _ (v : break_length (after text p) ≤ 0) where
     escape_is : {d : Read definition.Escaped} → escape q.start (after text p) ≡ d
-        → rest_of text q (text_turn p n) ≡ behind (quote_of q) p.mark (after text p) (escape_turn [] d)
+        → rest_of text q (text_turn (record { count = n; place = p })) ≡ behind (quote_of q) p.mark (after text p) (escape_turn [] d)
     unfolding mode_of
     escape_is e =
         rw a.next
@@ -140,10 +140,10 @@ module _ (q : Quote) {text : List ℕ} {p : Place} {n : ℕ} (s : Sound text (te
           let l : m.col + 1 + j ≡ m.col + (j + 1) = omega arith in
           pass_along j (along m) (after text p) y.1 ∙ rw (t.mark_is, t.at_is, ← z, reach_rest (pass_reach text (p.at + 1) j y.1), k, l)
 
-      one_is : rest_of text q (text_turn p n) ≡ before_read (x.code ∷ []) (quoted_run (quote_of q) chars_of 0 x.next.mark (chars (drop x.next.at text)))
+      one_is : rest_of text q (text_turn (record { count = n; place = p })) ≡ before_read (x.code ∷ []) (quoted_run (quote_of q) chars_of 0 x.next.mark (chars (drop x.next.at text)))
       one_is = escape_is t.is ∙ rw (← t.char, run_passing (quote_of q) chars_of t.esc.took (along p.mark) (after text p), one_place)
 
-      one_takes : record { text = x.code ∷ []; mode = chars_of; place = view text x.next } ≡ turn_of text q (text_turn p n)
+      one_takes : record { text = x.code ∷ []; mode = chars_of; place = view text x.next } ≡ turn_of text q (text_turn (record { count = n; place = p }))
       unfolding mode_of
       one_takes =
           rw (a.next, t.char, ← one_place)
@@ -154,16 +154,16 @@ module _ (q : Quote) {text : List ℕ} {p : Place} {n : ℕ} (s : Sound text (te
       one_on = let y = escape_passes q.start (after text p) t.esc t.is in omega (arith, t.at_is)
 
     pub one_turns : {before out : List ℕ} {x : Escaped} {k : ℕ} {r : Result Turned Refusal} → Escapes text p (Ok x) (escape q.start (after text p))
-        → out ≡ sets before n (char_bytes x.code) → k ≡ n + length (char_bytes x.code) → r ≡ Ok (Goes (text_turn x.next k)) → Advances text q before out (text_turn p n) r
+        → out ≡ sets before n (char_bytes x.code) → k ≡ n + length (char_bytes x.code) → r ≡ Ok (Goes (text_turn (record { count = k; place = x.next }))) → Advances text q before out (text_turn (record { count = n; place = p })) r
     unfolding mode_of encode
     one_turns {x = x} {k} w f g h =
         let t = taken p (escape q.start (after text p)) x w.same in
         let o = (width_some x.code).1 in
         let i = one_on t in
-        goes_on (x.code ∷ []) (text_turn x.next k) (one_takes t) (one_is t) (f ∙ rw (append-nil (char_bytes x.code))) (g ∙ rw (append-nil (char_bytes x.code)))
+        goes_on (x.code ∷ []) (text_turn (record { count = k; place = x.next })) (one_takes t) (one_is t) (f ∙ rw (append-nil (char_bytes x.code))) (g ∙ rw (append-nil (char_bytes x.code)))
         (record { stands = w.ahead.1; short = s.short; kept = tt; few = omega (arith, s.few) })
         (omega arith) h
 
     pub refused_turns : (before : List ℕ) {f : Refusal} {r : Result Turned Refusal} → Escapes text p (Err f) (escape q.start (after text p)) → r ≡ Err f
-        → Advances text q before before (text_turn p n) r
+        → Advances text q before before (text_turn (record { count = n; place = p })) r
     refused_turns before {f} w h = refused_at f.number f.mark (escape_is (not_taken p (escape q.start (after text p)) w.same)) h refl

@@ -90,7 +90,7 @@ module _ {text : List ℕ} {q : Quote} {t : Progress} {r : Result Turned Refusal
 
     -- text behind what was kept back
     pub fold_turns : {before mid after : List ℕ} {n : ℕ} → k ≡ Ok tt → PutsKept text t.place.at t.mode t.count before mid n
-        → Advances text q mid after (text_turn t.place n) r → Advances text q before after t r
+        → Advances text q mid after (text_turn (record { count = n; place = t.place })) r → Advances text q before after t r
     unfolding mode_of
     fold_turns z f g =
         let at = t.place.at in

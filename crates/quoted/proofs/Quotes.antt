@@ -42,11 +42,11 @@ single_low : is_break single_quote ≡ false
 unfolding is_break
 single_low = refl
 
-module _ {text : List ℕ} {q : Quote} {p : Place} {n : ℕ} {r : Result Turned Refusal} (s : Sound text (text_turn p n)) where
+module _ {text : List ℕ} {q : Quote} {p : Place} {n : ℕ} {r : Result Turned Refusal} (s : Sound text (text_turn (record { count = n; place = p }))) where
   module _ (a : CharAt text p.at (quote_by q.single) 1) (b : ℕ) (e : b ≡ get_or text (p.at + 1) 0) where
     -- a single one that stands twice
     pub pair_turns : {before after : List ℕ} → (q.single && eqb b 39) ≡ true → after ≡ set before n 39
-        → r ≡ Ok (Goes (text_turn (past p 2 (along_by 2 p.mark)) (n + 1))) → Advances text q before after (text_turn p n) r
+        → r ≡ Ok (Goes (text_turn (record { count = n + 1; place = past p 2 (along_by 2 p.mark) }))) → Advances text q before after (text_turn (record { count = n; place = p })) r
     unfolding mode_of encode char_bytes
     pair_turns {before} {after} h f k =
         let u = quote_unblank q.single in
@@ -61,7 +61,7 @@ module _ {text : List ℕ} {q : Quote} {p : Place} {n : ℕ} {r : Result Turned 
         let x : at + 1 + 1 ≡ at + 2 = omega arith in
         let v : passing 1 (along m) cs ≡ here (along_by 2 m) (chars (drop (at + 2) text)) = pass_along 1 (along m) cs l ∙ rw (i, j, d.next, x) in
         let o = eq-eqb (quote_by q.single) (quote_by q.single) refl in
-        goes_on (single_quote ∷ []) (text_turn (past p 2 (along_by 2 m)) (n + 1))
+        goes_on (single_quote ∷ []) (text_turn (record { count = n + 1; place = past p 2 (along_by 2 m) }))
         (rw (a.next, ← v) (take_pair (quote_of q) m (quote_by q.single) cs u.0 u.1 o g))
         (rw a.next
         (run_pair (quote_of q) m (quote_by q.single) cs u.0 u.1 o g ∙ rw (run_passing (quote_of q) chars_of 1 (along m) cs, v)))
@@ -70,7 +70,7 @@ module _ {text : List ℕ} {q : Quote} {p : Place} {n : ℕ} {r : Result Turned 
         (omega arith) k
 
     pub close_turns : (before : List ℕ) → (q.single && eqb b 39) ≡ false → r ≡ Ok (Closes (record { count = n; place = past p 1 (along p.mark) }))
-        → Advances text q before before (text_turn p n) r
+        → Advances text q before before (text_turn (record { count = n; place = p })) r
     unfolding mode_of
     close_turns before h k =
         let u = quote_unblank q.single in
@@ -85,7 +85,7 @@ module _ {text : List ℕ} {q : Quote} {p : Place} {n : ℕ} {r : Result Turned 
   -- a run of text
   pub run_turns : {before after : List ℕ} {e : Place} (i : TextAt text p.at) → text_char q.single i.char ≡ true
       → Spans text p e (words (leb q.indent (edge_of p.mark)) q.single p.mark (chars (drop p.at text)))
-      → after ≡ sets before n (part text p.at e.at) → r ≡ Ok (Goes (text_turn e (n + (e.at - p.at)))) → Advances text q before after (text_turn p n) r
+      → after ≡ sets before n (part text p.at e.at) → r ≡ Ok (Goes (text_turn (record { count = n + (e.at - p.at); place = e }))) → Advances text q before after (text_turn (record { count = n; place = p })) r
   unfolding mode_of encode
   run_turns {before} {after} {e} i t w f k =
       let m = p.mark in
@@ -101,7 +101,7 @@ module _ {text : List ℕ} {q : Quote} {p : Place} {n : ℕ} {r : Result Turned 
       let g : length (encode y.text) ≡ length (char_bytes c) + length (encode z.text) =
       rw (a.next, words_more spaces q.single m c (chars (drop (p.at + len) text)) (rw t)) (length-append (char_bytes c) (encode z.text)) in
       let j = (first_bytes (drop p.at text) c len a.is).1 in
-      goes_on y.text (text_turn e (n + (e.at - p.at)))
+      goes_on y.text (text_turn (record { count = n + (e.at - p.at); place = e }))
       (rw (w.moves.same, a.next) (take_words (quote_of q) m c (chars (drop (p.at + len) text)) i.no_blank i.no_break t))
       (run_words (quote_of q) spaces m (chars (drop p.at text)) (leb-true q.indent (edge_of m)) ∙ rw (← w.moves.same)) (f ∙ rw w.bytes) (rw l)
       (record { stands = w.moves.stands; short = s.short; kept = tt; few = omega (arith, s.few) })

@@ -27,7 +27,7 @@ pub record Running (text : List ℕ) (q : Quote) (before out : List ℕ) (t : Pr
   pub whole : written before 0 (quoted_run (quote_of q) chars_of 0 (along q.start) (chars (drop 1 text))) ≡ to_write text q out t
 
 pub running_start : {text : List ℕ} {q : Quote} {t : Progress} (before : List ℕ) → Stands text (first_at q.start) → 1 ≤ length text
-    → t ≡ text_turn (past (first_at q.start) 1 (along q.start)) 0 → Running text q before before t
+    → t ≡ text_turn (record { count = 0; place = past (first_at q.start) 1 (along q.start) }) → Running text q before before t
 unfolding mode_of
 running_start before s h e =
     rw e

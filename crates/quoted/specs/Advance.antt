@@ -64,8 +64,8 @@ pub record Sound (text : List ℕ) (t : Progress) : Type 0 where
   pub few : t.count + owed t.place.at t.mode ≤ 3 * t.place.at
 
 -- the same where nothing is kept back
-abbrev pub text_turn : Place → ℕ → Progress
-text_turn p n = record { place = p; mode = Chars; count = n }
+abbrev pub text_turn : Written → Progress
+text_turn w = record { place = w.place; mode = Chars; count = w.count }
 
 -- a text that ends behind an offset: at most three bytes of it for each that was read
 pub record ClosedBehind (text : List ℕ) (at : ℕ) (w : Written) : Type 0 where

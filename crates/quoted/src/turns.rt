@@ -89,12 +89,13 @@ fn quote_char(single: bool) -> u8
 }
 
 // A quote: a single one that stands twice is text.
-fn on_quote(text: &[u8], q: Quote, p: Place, n: usize, out: &mut [u8]) -> Turned
-    requires { Sound text.now (text_turn p n) × CharAt text.now p.at (quote_by q.single) 1 }
-    ensures { Advances text.now q out.old out.new (text_turn p n) (Ok result) }
+fn on_quote(text: &[u8], q: Quote, w: Written, out: &mut [u8]) -> Turned
+    requires { Sound text.now (text_turn w) × CharAt text.now w.place.at (quote_by q.single) 1 }
+    ensures { Advances text.now q out.old out.new (text_turn w) (Ok result) }
 {
-    let at = p.at;
-    if q.single & (byte(text, at + 1) == b'\'') {
+    let p = w.place;
+    let n = w.count;
+    if q.single & (byte(text, p.at + 1) == b'\'') {
         put(out, n, b'\'');
         return goes(p.skip_n_non_blank(2), Mode::Chars, n + 1);
     }
@@ -105,12 +106,13 @@ fn on_quote(text: &[u8], q: Quote, p: Place, n: usize, out: &mut [u8]) -> Turned
 }
 
 // A backslash: an escaped break, or an escape (37 to 39).
-fn on_backslash(text: &[u8], q: Quote, p: Place, n: usize, out: &mut [u8]) -> Result<Turned, Refusal>
-    requires { Sound text.now (text_turn p n) × CharAt text.now p.at backslash 1 × (q.single ≡ false) }
-    ensures { Advances text.now q out.old out.new (text_turn p n) result }
+fn on_backslash(text: &[u8], q: Quote, w: Written, out: &mut [u8]) -> Result<Turned, Refusal>
+    requires { Sound text.now (text_turn w) × CharAt text.now w.place.at backslash 1 × (q.single ≡ false) }
+    ensures { Advances text.now q out.old out.new (text_turn w) result }
 {
-    let at = p.at;
-    let k = break_length(text, at + 1);
+    let p = w.place;
+    let n = w.count;
+    let k = break_length(text, p.at + 1);
     if 0 < k {
         let e = p.skip_blank();
         return Ok(goes(e.skip_linebreak(k), Mode::Escaped, n));
@@ -172,17 +174,19 @@ fn text_end(text: &[u8], start: Place, single: bool, spaces: bool) -> Place
 }
 
 // A character of the text that nothing is kept back before.
-fn on_char(text: &[u8], q: Quote, p: Place, n: usize, out: &mut [u8]) -> Result<Turned, Refusal>
-    requires { Sound text.now (text_turn p n) × TextAt text.now p.at }
-    ensures { Advances text.now q out.old out.new (text_turn p n) result }
+fn on_char(text: &[u8], q: Quote, w: Written, out: &mut [u8]) -> Result<Turned, Refusal>
+    requires { Sound text.now (text_turn w) × TextAt text.now w.place.at }
+    ensures { Advances text.now q out.old out.new (text_turn w) result }
 {
+    let p = w.place;
+    let n = w.count;
     let at = p.at;
     let c = byte(text, at);
     if c == quote_char(q.single) {
-        return Ok(on_quote(text, q, p, n, out));
+        return Ok(on_quote(text, q, w, out));
     }
     if (c == b'\\') & !q.single {
-        return on_backslash(text, q, p, n, out);
+        return on_backslash(text, q, w, out);
     }
     // Blanks are held against the indent: not below it, a space in a line of text is text.
     let e = text_end(text, p, q.single, q.indent <= p.mark.col + 1);
@@ -215,8 +219,8 @@ fn on_text(text: &[u8], q: Quote, t: Progress, out: &mut [u8]) -> Result<Turned,
     let p = t.place;
     let mode = t.mode;
     check_line(text, q, p, mode)?;
-    let n = put_kept(text, p.at, mode, t.count, out);
-    on_char(text, q, p, n, out)
+    let count = put_kept(text, p.at, mode, t.count, out);
+    on_char(text, q, Written { count, place: p }, out)
 }
 
 // One turn. 34: the end.

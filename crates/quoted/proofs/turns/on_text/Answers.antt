@@ -10,4 +10,4 @@ returns-in_err-check_line c =
     rw (p.1, p.2) (wrong_turns c.requires.1 c.in_err-check_line.ensures _ refl refl)
 
 pub returns : goal.returns
-returns c = fold_turns c.requires.1 c.in_ok-check_line.ensures refl c.put_kept-n.ensures c.on_char.ensures
+returns c = fold_turns c.requires.1 c.in_ok-check_line.ensures refl c.put_kept-count.ensures c.on_char.ensures
