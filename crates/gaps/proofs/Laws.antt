@@ -4,9 +4,13 @@ use mathlib.Core.Bool.{Bool, ◌&&◌, ◌||◌, false, not, or_assoc, or-false,
 use mathlib.Core.List.{List, [], ◌∷◌}
 use mathlib.Core.Path.{◌∙◌, ◌≡◌, ap, refl, sym}
 use native.Mathlib.Omega.{arith}
-use lib.Dec.{T, eqb}
+use lib.Dec.{T, eqb, ltb}
+use Rattle.std.specs.List.{prefix_len}
+use Rattle.std.proofs.Common.{get_or-drop, length-drop, take_all}
+use Rattle.std.proofs.lemmas.List.{get_or_past}
+use Rattle.std.proofs.lemmas.List.Sums.{prefix_len_stops}
 use lib.ListN.{drop, get_or, length, take}
-use borrow.Author.Tests.{eqb-true}
+use borrow.Author.Tests.{eqb-true, ltb-false, ltb-true}
 use Rattle.yaml_text.specs.declared.Mark.{Mark}
 use Rattle.yaml_text.specs.Char.{'#', carriage_return, line_feed, space, tab}
 use Rattle.yaml_text.specs.Class.{is_blank, is_break, peek}
@@ -24,7 +28,7 @@ use Rattle.yaml_lexeme.specs.Fits.{to_break_fit}
 use Rattle.yaml_lexeme.specs.Gap.{Gap, blanks, comment_after, gap_turn, is_leading, on_blank, on_hash, on_other, skip_gap, stop, to_break}
 use Rattle.yaml_lexeme.specs.Turns.{blanks_more, blanks_stop, gap_turned, to_break_more, to_break_stop}
 use Rattle.chars.specs.declared.mark.Place.{Place}
-use Rattle.chars.specs.Ascii.{blank_ascii, blank_unbroken, break_ascii, low}
+use Rattle.chars.specs.Ascii.{ascii_low, blank_ascii, blank_unbroken, break_ascii, low}
 use Rattle.chars.specs.Blocks.{is_space}
 use Rattle.chars.specs.Bytes.{CharAt, ascii_at, eq_at, ne_char}
 use Rattle.chars.specs.Reach.{more, reach_within}
@@ -32,20 +36,60 @@ use Rattle.chars.specs.View.{Moves, Stands, past, view}
 use Rattle.gaps.specs.Breaks.{BreakAt, Breaks, none, one, two}
 use Rattle.gaps.specs.Gap.{Open, Other, gap_from}
 use Rattle.gaps.specs.Line.{is_low, line, line_more, line_row, line_stop, low_row, low_run}
-use Rattle.gaps.specs.Row.{Row, done, next, row_reach}
+use Rattle.gaps.specs.Row.{Row, done, next, row, row_reach}
 use Rattle.gaps.specs.Spaces.{space_row, space_run}
-use Rattle.gaps.specs.Walk.{Walks, moves_some, walks_along}
+use Rattle.gaps.specs.Walk.{Walks, moves_some, walks_along, walks_done, walks_start}
 use Rattle.gaps.specs.Span.{Spanning, spans_along}
 
 -- blanks
 
-pub blank_turn : {s : List ℕ} {at c : ℕ} (m : Mark) → CharAt s at c 1 → is_blank c ≡ true → blanks m (chars (drop at s)) ≡ blanks (along m) (chars (drop (at + 1) s))
+blank_turn : {s : List ℕ} {at c : ℕ} (m : Mark) → CharAt s at c 1 → is_blank c ≡ true → blanks m (chars (drop at s)) ≡ blanks (along m) (chars (drop (at + 1) s))
 blank_turn {s} {at} {c} m x e = rw x.next (blanks_more m c (chars (drop (at + 1) s)) e)
 
 pub blank_done : (m : Mark) (cs : List ℕ) → is_blank (peek cs 0) ≡ false → blanks m cs ≡ here m cs
 unfolding blanks
 blank_done m [] e = refl
 blank_done m (c ∷ cs) e = blanks_stop m c cs e
+
+blanks_row : {s : List ℕ} {at k : ℕ} → Row is_blank s at k → (m : Mark) → blanks m (chars (drop at s)) ≡ blanks (along_by k m) (chars (drop (at + k) s))
+blanks_row {at = at} done m =
+    let e : at + 0 ≡ at = omega arith in
+    let i : m.index + 0 ≡ m.index = omega arith in
+    let c : m.col + 0 ≡ m.col = omega arith in
+    rw (e, i, c)
+blanks_row {s} {at} (next {k = k} x f r) m =
+    let e : at + 1 + k ≡ at + suc k = omega arith in
+    let i : m.index + 1 + k ≡ m.index + suc k = omega arith in
+    let c : m.col + 1 + k ≡ m.col + suc k = omega arith in
+    blank_turn m x f ∙ rw (e, i, c) at (blanks_row r (along m))
+
+-- what `&s[at..]` lends
+pub to_end : (s : List ℕ) (at : ℕ) → take (length s - at) (drop at s) ≡ drop at s
+to_end s at = take_all (length s - at) (drop at s) (rw length-drop (omega arith))
+
+-- behind the bytes of a class in a row stands none of them
+row_stops : (p : ℕ → Bool) (s : List ℕ) (at : ℕ) → p 0 ≡ false → p (get_or s (at + prefix_len p (drop at s)) 0) ≡ false
+row_stops p s at z =
+    let n = prefix_len p (drop at s) in
+    let e = get_or-drop at s n 0 in
+    by_test (ltb n (length (drop at s)))
+    (λ t. rw (← e) (prefix_len_stops p (drop at s) 0 (ltb-true n (length (drop at s)) t)))
+    (λ t. rw (← e, get_or_past (drop at s) n 0 (ltb-false n (length (drop at s)) t)) z)
+
+module _ {text : List ℕ} {p : Place} {n : ℕ} (h : Stands text p) (e : n ≡ prefix_len is_blank (drop p.at text)) where
+  there : Row is_blank text p.at n
+  there = rw e (row is_blank (λ b f. (ascii_low blank_ascii b f).1) text p.at)
+
+  pub blanks_few : n ≤ 2 ^ 20
+  blanks_few = let w = reach_within (row_reach there) h.within in omega (arith, w, h)
+
+  pub blanks_past : {r : Place} → r ≡ past p n (along_by n p.mark) → Moves text p r (blanks p.mark (chars (drop p.at text)))
+  unfolding is_blank
+  blanks_past f =
+      let z : is_blank (get_or text (p.at + n) 0) ≡ false = rw e (row_stops is_blank text p.at refl) in
+      rw f
+      (walks_done (walks_along (walks_start h) n n (row_reach there) (blanks_row there p.mark))
+      (blank_done _ _ (ascii_at text (p.at + n) _ refl blank_ascii ∙ z)))
 
 -- the line's end
 

@@ -1,7 +1,9 @@
 // K1: gaps between tokens; and the blanks and comment that are read after a token.
 #![tactic(auto)]
 
-ghost use Rattle.std.specs.Prelude.{◌+◌, ◌^◌, ◌≤◌, Bool, ◌≡◌, drop, length};
+ghost use Rattle.std.specs.Prelude.{◌+◌, ◌≤◌, Bool, ◌≡◌, drop, length};
+ghost use Rattle.std.specs.List.{prefix_len};
+ghost use Rattle.yaml_text.specs.Class.{is_blank};
 ghost use Rattle.yaml_text.specs.Pick.{pick};
 ghost use Rattle.yaml_text.specs.Utf8.{chars};
 ghost use Rattle.yaml_lexeme.specs.declared.Before.TheVariants.{AfterText, Leading};
@@ -9,11 +11,11 @@ ghost use Rattle.yaml_lexeme.specs.Gap.{blanks, blanks_and_comment, is_leading, 
 ghost use Rattle.chars.specs.View.{Moves, Stands, view};
 ghost use Rattle.reading.specs.Reading.{ReachesAs};
 ghost use Rattle.gaps.specs.Gap.{Open, Other, Skips, gap_from};
-ghost use Rattle.gaps.specs.Line.{is_low, line, low_run};
+ghost use Rattle.gaps.specs.Line.{is_low, line};
 ghost use Rattle.gaps.specs.Spaces.{Tries, space_run};
 ghost use Rattle.chars.specs.Parts.{Spans};
 
-use chars::block::{Space, past_blocks};
+use chars::block::{ByteClass, Space, past_blocks};
 use chars::class::{is_blank, is_break};
 use chars::mark::{Place, break_length};
 use chars::pick::pick;
@@ -22,31 +24,42 @@ use utf8::{byte, char_at};
 use yaml_lexeme::Before;
 use yaml_text::{Decoded, Mark, Refusal};
 
+struct Blank;
+
+impl ByteClass for Blank {
+    ghost test = { is_blank };
+
+    fn has(b: u8) -> bool {
+        is_blank(b as u32)
+    }
+}
+
+// A character of one byte that is no break.
+struct Low;
+
+impl ByteClass for Low {
+    ghost test = { is_low };
+
+    #[tactic(auto, unfolding(crate::specs::Line::is_low))]
+    fn has(b: u8) -> bool {
+        (b < 128) & !is_break(b as u32)
+    }
+}
+
+// How many bytes of a class a text begins with.
+fn leading<C: ByteClass>(text: &[u8]) -> usize
+    ensures value { result ≡ prefix_len C.test text.now }
+    ensures within { result ≤ length text.now }
+{
+    text.iter().take_while(|b| C::has(**b)).count()
+}
+
 // Past the blanks here.
 pub fn skip_blanks(text: &[u8], start: Place) -> Place
     requires { Stands text.now start }
     ensures { Moves text.now start result (blanks start.mark (chars (drop start.at text.now))) }
 {
-    let mut p = start;
-    while is_blank(byte(text, p.at) as u32) {
-        p = p.skip_blank();
-    }
-    p
-}
-
-// How many bytes from a place on are characters of its line, each of one byte.
-fn low_run(text: &[u8], at: usize) -> u32
-    requires { (at ≤ length text.now) × (length text.now ≤ at + 2 ^ 20) }
-    ensures { result ≡ low_run (drop at text.now) }
-{
-    text[at..].iter().take_while(|b| is_low(**b)).count() as u32
-}
-
-// Whether a byte is a character that is no break.
-fn is_low(b: u8) -> bool
-    ensures { result ≡ is_low b }
-{
-    (b < 128) & !is_break(b as u32)
+    start.skip_n_non_blank(leading::<Blank>(&text[start.at..]) as u32)
 }
 
 // To the line's end: over the characters of one byte in a row, and over one of several bytes. The bytes passed over are the line's text.
@@ -56,10 +69,8 @@ pub fn run_to_break(text: &[u8], start: Place) -> Place
 {
     let mut p = start;
     loop {
-        let from = p.at;
-        let q = p.skip_n_non_blank(low_run(text, from));
-        let at = q.at;
-        let d = char_at(text, at);
+        let q = p.skip_n_non_blank(leading::<Low>(&text[p.at..]) as u32);
+        let d = char_at(text, q.at);
         let Decoded::Char { code, len } = d else {
             return q;
         };

@@ -1,7 +1,7 @@
 -- The line from here on is what is left of the line.
 use Prim.Native.Nat.{◌≤◌, ℕ}
 use mathlib.Core.List.{List}
-use mathlib.Core.Path.{◌∙◌, sym}
+use mathlib.Core.Path.{◌∙◌, ◌≡◌, ap, sym}
 use native.Mathlib.Omega.{arith}
 use lib.ListN.{drop}
 use Rattle.yaml_text.specs.Mark.{Run}
@@ -10,21 +10,25 @@ use Rattle.chars.specs.declared.mark.Place.{Place}
 use Rattle.chars.specs.Bytes.{CharAt, char_at, none_told, not_char}
 use Rattle.chars.specs.Places.{small}
 use Rattle.chars.specs.Reach.{reach_one}
-use Rattle.gaps.specs.Line.{line}
+use Rattle.gaps.specs.Line.{line, low_run}
 use Rattle.gaps.specs.Span.{Spanning, spans_along, spans_done, spans_start}
-use Rattle.gaps.proofs.Laws.{end_done, line_done, line_turn, low_few, low_spans}
+use Rattle.gaps.proofs.Laws.{end_done, line_done, line_turn, low_few, low_spans, to_end}
 use borrow.Author.Rules.{rules}
 use Rattle.gaps.proofs.run_to_break.Goals as goal
-use Rattle.gaps.proofs.run_to_break.Goals.{After-skip_n_non_blank-q, In-Char}
+use Rattle.gaps.proofs.run_to_break.Goals.{After-leading, After-skip_n_non_blank-q, In-Char}
 
 -- the line from a place on
 abbrev line-from : List ℕ → Place → Run
 line-from text p = line p.mark (chars (drop p.at text))
 
--- behind the characters of one byte
+-- the characters of one byte there
+counted : (c : After-leading) → let p = c.loop-code.p in c.leading.result ≡ low_run (drop p.at c.args.text.now)
+counted c = c.leading.ensures.value ∙ ap low_run (to_end c.args.text.now c.loop-code.p.at)
+
+-- behind them
 spanned : (c : After-skip_n_non_blank-q) → let q = c.skip_n_non_blank-q.result in
     Spanning c.args.text.now c.args.start q (line-from c.args.text.now c.args.start) (line-from c.args.text.now q)
-spanned c = low_spans c.low_run.ensures c.loop-code.invariant c.skip_n_non_blank-q.ensures
+spanned c = low_spans (c.leading.ensures.value ∙ ap low_run (to_end c.args.text.now c.loop-code.p.at)) c.loop-code.invariant c.skip_n_non_blank-q.ensures
 
 -- the character there
 char : (c : In-Char) → CharAt c.args.text.now c.skip_n_non_blank-q.result.at c.in-Char.code c.in-Char.len
@@ -33,11 +37,8 @@ char c = char_at _ _ _ _ (sym c.char_at-d.ensures ∙ c.in-Char.is)
 pub loop-code-init : goal.loop-code-init
 loop-code-init c = spans_start c.requires
 
-pub low_run-requires : goal.low_run-requires
-low_run-requires c = let h = c.loop-code.invariant.walks.stands in (h.within, omega (arith, h.index, h.within))
-
 pub skip_n_non_blank-q-requires : goal.skip_n_non_blank-q-requires
-skip_n_non_blank-q-requires c = (small c.loop-code.invariant.walks.stands (search rules), low_few c.low_run.ensures c.loop-code.invariant.walks.stands)
+skip_n_non_blank-q-requires c = let h = c.loop-code.invariant.walks.stands in (small h (search rules), low_few (counted c) h)
 
 pub returns-in_default : goal.returns-in_default
 returns-in_default c =
