@@ -1,11 +1,12 @@
 -- What a reader answers, put together: a token with its texts written from the room's front, or a refusal, which has cleared the room.
 use Rattle.std.specs.Prelude.{◌%◌, ◌+◌, ◌^◌, ◌≤◌, ℕ, List, Result, Ok, Err, ◌≡◌, refl, get_or, length, replicate}
-use Rattle.std.proofs.Common.{◌∙◌, sym, arith}
+use Rattle.std.proofs.Common.{◌∙◌, ap, sym, arith}
+use Rattle.std.proofs.Math.Seq.{length-sets}
 use Rattle.std.proofs.lemmas.List.Edits.{sets}
 use Rattle.yaml_text.specs.declared.Mark.{Mark}
 use Rattle.yaml_text.specs.declared.Refusal.{Refusal}
 use Rattle.yaml_text.specs.Mark.{along}
-use Rattle.yaml_text.specs.All.{All, holds}
+use Rattle.yaml_text.specs.All.{All, holds, not_read}
 use Rattle.yaml_text.specs.Refusal.{Read, got, refused}
 use Rattle.yaml_lexeme.specs.declared.Text.{Text}
 use Rattle.yaml_lexeme.specs.Record.{laid_token, text_at}
@@ -65,6 +66,19 @@ lexes_cleared (Ok l) (got x) h (holds w) i k = rw k.same (record { same = h.same
 lexes_cleared (Ok l) (refused n m) h w i k = apart h.same
 lexes_cleared (Err f) (got x) h w i k = apart (sym h.same)
 lexes_cleared (Err f) (refused n m) h w i k = rw k.same (record { same = h.same; bytes = rw i at k.bytes; ahead = tt })
+
+module _ {text before after : List ℕ} {used : ℕ} {d : Read tokens.Lexeme} where
+  pub reads_got : {x : Lexeme} {l : tokens.Lexeme} → d ≡ got l → x.token ≡ laid_token used l.token → view text x.next ≡ l.place
+      → after ≡ sets before 0 (tokens.token_bytes l.token) → Behind text x → Reads text before after used (Ok x) d
+  reads_got {l = l} f t p b h =
+      record { answers = answers_got refl f t p h; texts = rw f (holds b); kept = ap length b ∙ length-sets before 0 (tokens.token_bytes l.token) }
+
+  pub reads_refused : {n : ℕ} {m : Mark} → d ≡ refused n m → length after ≡ length before
+      → Reads text before after used (Err (record { number = n; mark = m })) d
+  reads_refused f k = record { answers = answers_refused refl f; texts = rw f not_read; kept = k }
+
+  pub reads_cleared : {cleared : List ℕ} {r e : Result Lexeme Refusal} → Reads text before after used r d → Clears after cleared r e → Lexes text before cleared used e d
+  reads_cleared {r = r} h k = lexes_cleared r d h.answers h.texts h.kept k
 
 -- the place behind an indicator
 abbrev pub behind_first : Mark → Place

@@ -1,11 +1,12 @@
 -- The three forms of a tag.
+use Rattle.std.specs.Prelude.{Ok, Err}
 use Prim.Native.Nat.{◌+◌, ◌-◌, suc, ℕ}
 use mathlib.Core.Bool.{Bool, false, true}
 use mathlib.Core.List.{List, [], ◌++◌, ◌∷◌}
 use mathlib.Core.Path.{◌∙◌, ◌≡◌, ap, refl, sym}
 use native.Mathlib.Omega.{arith}
 use lib.Dec.{eqb}
-use lib.ListN.{drop, get_or, length, length-append, replicate, take}
+use lib.ListN.{drop, get_or, length, length-append, take}
 use lib.Seq.{length-sets, length-take-le, sets}
 use borrow.Author.Tests.{eq-eqb, ne_eqb}
 use Rattle.rooms.specs.Room.{sets_join}
@@ -28,13 +29,10 @@ use Rattle.chars.specs.Places.{stands_along}
 use Rattle.chars.specs.Reach.{more, none, reach_one, reach_rest}
 use Rattle.chars.specs.View.{Stands, past, view}
 use Rattle.reading.specs.Reading.{first_at}
-use Rattle.runs.specs.declared.Run.{Run}
-use Rattle.runs.specs.declared.Run.TheVariants as run
+use Rattle.reading.specs.declared.Written.{Written}
 use Rattle.runs.specs.Encode.{none_size}
 use Rattle.runs.specs.Run.{Writes}
-use Rattle.runs.specs.RunLaws.{ran, run_refused}
-use Rattle.tags.specs.declared.tag.Texts.{Texts}
-use Rattle.tags.specs.declared.tag.Texts.TheVariants.{Got, Refused}
+use Rattle.runs.specs.RunLaws.{Ran, ran, run_refused}
 use Rattle.tags.specs.Texts.{Lays, NameAt, Tagged, name_in}
 use Rattle.tags.proofs.Laying.{lays_got, lays_refused}
 
@@ -73,28 +71,29 @@ module _ {text : List ℕ} {start : Mark} (h : Tagged text start) (b : get_or te
   third_rest : chars (drop 2 text) ≡ drop 2 (chars (drop 0 text))
   third_rest = reach_rest (more h.first (more opened none))
 
-  module _ {before after : List ℕ} {r : Run} (w : Writes text before after (third start) 0 r (uri_at is_uri start (view text (third start)))) where
-    x_read : Writes text before after (third start) 0 r (uri_at is_uri start (skip_by 2 (view text (first_at start))))
-    x_read = rw third_rest at w
-
-    pub verbatim_refused : {room : List ℕ} {f : Refusal} {v : Texts} → r ≡ run.Refused f → v ≡ Refused f → room ≡ replicate (length after) 0
-        → length after ≡ length before → Lays text before room v (verbatim start (view text (first_at start)))
+  module _ {before after : List ℕ} where
+    pub verbatim_refused : {f : Refusal} → Writes text before after (third start) 0 (Err f) (uri_at is_uri start (view text (third start)))
+        → Lays text before after (Err f) (verbatim start (view text (first_at start)))
     unfolding verbatim ◌>>=◌
-    verbatim_refused e g z l = lays_refused g (z ∙ rw l) (rw (run_refused x_read e))
+    verbatim_refused w = lays_refused (rw (run_refused (rw third_rest at w) refl)) w.kept
 
-    module _ {p : Place} {n : ℕ} {v : Texts} (e : r ≡ run.To p n) where
-      pub verbatim_open : {room : List ℕ} {c : ℕ} → c ≡ get_or text p.at 0 → (c ≡ '>' → ⊥) → v ≡ Refused (record { number = 20; mark = start })
-          → room ≡ replicate (length after) 0 → length after ≡ length before → Lays text before room v (verbatim start (view text (first_at start)))
+    module _ {x : Written} (w : Writes text before after (third start) 0 (Ok x) (uri_at is_uri start (view text (third start)))) where
+      x_read : Ran text before after (third start) 0 x (uri_at is_uri start (skip_by 2 (view text (first_at start))))
+      x_read = ran (rw third_rest at w) refl
+
+      pub verbatim_open : {c : ℕ} → c ≡ get_or text x.place.at 0 → (c ≡ '>' → ⊥)
+          → Lays text before after (Err (record { number = 20; mark = start })) (verbatim start (view text (first_at start)))
       unfolding verbatim ◌>>=◌ need
-      verbatim_open {c = c} i z g y l = lays_refused g (y ∙ rw l) (rw ((ran x_read e).is, ne_char text p.at c i '>' tt z))
+      verbatim_open {c = c} i z = lays_refused (rw (x_read.is, ne_char text x.place.at c i '>' tt z)) w.kept
 
-      pub verbatim_closed : {q : Place} → CharAt text p.at '>' 1 → q ≡ past p 1 (along p.mark) → v ≡ Got 0 n q
-          → Lays text before after v (verbatim start (view text (first_at start)))
+      pub verbatim_closed : {q : Place} → CharAt text x.place.at '>' 1 → q ≡ past x.place 1 (along x.place.mark)
+          → Lays text before after (Ok (record { one = 0; other = x.count; place = q })) (verbatim start (view text (first_at start)))
       unfolding encode
-      verbatim_closed {q} a i g =
-          let t = ran x_read e in
-          let s : eqb (peek (chars (drop p.at text)) 0) '>' ≡ true = rw a.next in
-          lays_got (rw i at g) (verbatim_is start (view text (first_at start)) t.is s)
+      verbatim_closed {q} a i =
+          let t = x_read in
+          let s : eqb (peek (chars (drop x.place.at text)) 0) '>' ≡ true = rw a.next in
+          rw i
+          (lays_got (verbatim_is start (view text (first_at start)) t.is s)
           (record {
             one = refl;
             other = omega (arith, t.next);
@@ -103,7 +102,7 @@ module _ {text : List ℕ} {start : Mark} (h : Tagged text start) (b : get_or te
             stands = stands_along t.stands 1 1 (omega arith) a.within;
             some = omega arith;
             few = omega (arith, t.few);
-          })
+          }))
 
 -- a text that is written behind the first n bytes, which were copied
 pub record Copied (text before mid : List ℕ) (n : ℕ) : Type 0 where
@@ -152,30 +151,31 @@ module _ {text : List ℕ} {start : Mark} {p : Place} (h : NameAt text start p) 
     handle_size : size handle ≡ p.at + 1
     handle_size = ap length (sym handle_bytes) ∙ length-take-le (p.at + 1) text second.within
 
-    module _ {mid after : List ℕ} {r : Run}
-        (w : Writes text mid after (past p 1 (along p.mark)) (p.at + 1) r (uri_at is_tag start (view text (past p 1 (along p.mark))))) where
-      suffix : Writes text mid after (past p 1 (along p.mark)) (p.at + 1) r (uri_at is_tag start (skip_by 1 (view text p)))
-      suffix = rw (reach_rest (reach_one second)) at w
+    module _ {before mid after : List ℕ} (c : Copied text before mid (p.at + 1)) where
+      pub handled_refused : {f : Refusal} → Writes text mid after (past p 1 (along p.mark)) (p.at + 1) (Err f) (uri_at is_tag start (view text (past p 1 (along p.mark))))
+          → Lays text before after (Err f) (handled start (name_in text start).text (view text p))
+      unfolding handled ◌>>=◌
+      handled_refused w = lays_refused (rw (run_refused (rw (reach_rest (reach_one second)) at w) refl)) (w.kept ∙ kept c)
 
-      module _ {before : List ℕ} {v : Texts} (c : Copied text before mid (p.at + 1)) where
-        pub handled_refused : {room : List ℕ} {f : Refusal} → r ≡ run.Refused f → v ≡ Refused f → room ≡ replicate (length after) 0 → length after ≡ length mid
-            → Lays text before room v (handled start (name_in text start).text (view text p))
-        unfolding handled ◌>>=◌
-        handled_refused e g z l = lays_refused g (z ∙ rw (l, kept c)) (rw (run_refused suffix e))
+      module _ {x : Written}
+          (w : Writes text mid after (past p 1 (along p.mark)) (p.at + 1) (Ok x) (uri_at is_tag start (view text (past p 1 (along p.mark))))) where
+        suffix : Ran text mid after (past p 1 (along p.mark)) (p.at + 1) x (uri_at is_tag start (skip_by 1 (view text p)))
+        suffix = ran (rw (reach_rest (reach_one second)) at w) refl
 
-        pub handled_none : {room : List ℕ} {q : Place} {k : ℕ} → r ≡ run.To q k → k ≡ p.at + 1 → v ≡ Refused (record { number = 25; mark = start })
-            → room ≡ replicate (length after) 0 → length after ≡ length mid → Lays text before room v (handled start (name_in text start).text (view text p))
-        handled_none e z g y l =
-            let t = ran suffix e in
+        pub handled_none : x.count ≡ p.at + 1
+            → Lays text before after (Err (record { number = 25; mark = start })) (handled start (name_in text start).text (view text p))
+        handled_none z =
+            let t = suffix in
             let n : none_left t.run ≡ true = none_size t.run ∙ eq-eqb (size t.run) 0 (omega (arith, t.next)) in
-            lays_refused g (y ∙ rw (l, kept c)) (handled_no start (view text p) (name_in text start).text t.is n)
+            lays_refused (handled_no start (view text p) (name_in text start).text t.is n) (w.kept ∙ kept c)
 
-        pub handled_some : {q : Place} {k : ℕ} → r ≡ run.To q k → (k ≡ p.at + 1 → ⊥) → v ≡ Got (p.at + 1) (k - (p.at + 1)) q
-            → Lays text before after v (handled start (name_in text start).text (view text p))
-        handled_some e z g =
-            let t = ran suffix e in
+        pub handled_some : (x.count ≡ p.at + 1 → ⊥)
+            → Lays text before after (Ok (record { one = p.at + 1; other = x.count - (p.at + 1); place = x.place }))
+            (handled start (name_in text start).text (view text p))
+        handled_some z =
+            let t = suffix in
             let n : none_left t.run ≡ false = none_size t.run ∙ ne_eqb (size t.run) 0 (λ i. z (omega (arith, t.next))) in
-            lays_got g (handled_is start (view text p) (name_in text start).text t.is n)
+            lays_got (handled_is start (view text p) (name_in text start).text t.is n)
             (record {
               one = sym handle_size;
               other = omega (arith, t.next);
@@ -202,20 +202,21 @@ module _ {text : List ℕ} {start : Mark} {p : Place} (h : NameAt text start p) 
   unfolding encode char_bytes
   s_bytes c t i = rw (encode_append (name_in text start).text t) (behind c ('!' ∷ (name_in text start).text) t front front_size i)
 
-  module _ {before mid after : List ℕ} {r : Run} (c : Copied text before mid p.at) (w : Writes text mid after p p.at r (uri_at is_tag start (view text p))) where
-    pub primary_refused : {room : List ℕ} {f : Refusal} {v : Texts} → r ≡ run.Refused f → v ≡ Refused f → room ≡ replicate (length after) 0 → length after ≡ length mid
-        → Lays text before room v (primary start (name_in text start).text (view text p))
+  module _ {before mid after : List ℕ} (c : Copied text before mid p.at) where
+    pub primary_refused : {f : Refusal} → Writes text mid after p p.at (Err f) (uri_at is_tag start (view text p))
+        → Lays text before after (Err f) (primary start (name_in text start).text (view text p))
     unfolding primary ◌>>=◌
-    primary_refused e g z l = lays_refused g (z ∙ rw (l, kept c)) (rw (run_refused w e))
+    primary_refused w = lays_refused (rw (run_refused w refl)) (w.kept ∙ kept c)
 
-    module _ {q : Place} {k : ℕ} {v : Texts} (e : r ≡ run.To q k) where
-      pub primary_alone : k ≡ 1 → v ≡ Got 0 1 q → Lays text before after v (primary start (name_in text start).text (view text p))
+    module _ {x : Written} (w : Writes text mid after p p.at (Ok x) (uri_at is_tag start (view text p))) where
+      pub primary_alone : x.count ≡ 1
+          → Lays text before after (Ok (record { one = 0; other = 1; place = x.place })) (primary start (name_in text start).text (view text p))
       unfolding encode char_bytes
-      primary_alone z g =
-          let t = ran w e in
+      primary_alone z =
+          let t = ran w refl in
           let s = text_of t.run in
           let i : size s ≡ 0 = omega (arith, s_size t.run t.next) in
-          lays_got g (primary_is start (view text p) (name_in text start).text true t.is (none_size s ∙ eq-eqb (size s) 0 i))
+          lays_got (primary_is start (view text p) (name_in text start).text true t.is (none_size s ∙ eq-eqb (size s) 0 i))
           (record {
             one = refl;
             other = refl;
@@ -226,13 +227,14 @@ module _ {text : List ℕ} {start : Mark} {p : Place} (h : NameAt text start p) 
             few = omega (arith, t.few, t.next, front_size);
           })
 
-      pub primary_some : (k ≡ 1 → ⊥) → v ≡ Got 1 (k - 1) q → Lays text before after v (primary start (name_in text start).text (view text p))
+      pub primary_some : (x.count ≡ 1 → ⊥)
+          → Lays text before after (Ok (record { one = 1; other = x.count - 1; place = x.place })) (primary start (name_in text start).text (view text p))
       unfolding encode char_bytes
-      primary_some z g =
-          let t = ran w e in
+      primary_some z =
+          let t = ran w refl in
           let s = text_of t.run in
           let l = s_size t.run t.next in
-          lays_got g (primary_is start (view text p) (name_in text start).text false t.is (none_size s ∙ ne_eqb (size s) 0 (λ i. z (omega arith))))
+          lays_got (primary_is start (view text p) (name_in text start).text false t.is (none_size s ∙ ne_eqb (size s) 0 (λ i. z (omega arith))))
           (record {
             one = refl;
             other = omega arith;

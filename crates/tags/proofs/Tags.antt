@@ -1,11 +1,12 @@
 -- A tag, by its form, and its end.
+use Rattle.std.specs.Prelude.{Ok, Err}
 use Prim.Native.Nat.{◌%◌, ◌+◌, ◌^◌, ℕ}
 use mathlib.Core.Bool.{Bool, ◌&&◌, ◌||◌, false, true}
 use mathlib.Core.List.{List}
 use mathlib.Core.Path.{◌∙◌, ◌≡◌, ap, refl, sym}
 use native.Mathlib.Omega.{arith}
 use lib.Dec.{eqb}
-use lib.ListN.{drop, get_or, length, replicate}
+use lib.ListN.{drop, get_or}
 use borrow.Author.Tests.{eq-eqb}
 use Rattle.yaml_text.specs.declared.Mark.{Mark}
 use Rattle.yaml_text.specs.declared.Refusal.{Refusal}
@@ -24,14 +25,11 @@ use Rattle.yaml_lexeme.specs.Token.{Tag, kind_bytes, lexeme}
 use Rattle.chars.specs.declared.mark.Place.{Place}
 use Rattle.chars.specs.Bytes.{eq_at, ne_char}
 use Rattle.chars.specs.View.{view}
-use Rattle.reading.specs.declared.Reading.{Reading}
-use Rattle.reading.specs.declared.Reading.TheVariants as reading
-use Rattle.reading.specs.Answers.{lexes_got, lexes_refused, texts_at}
-use Rattle.reading.specs.Reading.{Indicated, Lexes, first_at, text_size}
+use Rattle.reading.specs.Answers.{Reads, reads_got, reads_refused, texts_at}
+use Rattle.reading.specs.Reading.{Indicated, first_at, text_size}
 use Rattle.tags.specs.declared.tag.Texts.{Texts}
-use Rattle.tags.specs.declared.tag.Texts.TheVariants.{Got, Refused}
 use Rattle.tags.specs.Texts.{Lays, NameAt, Tagged, name_in}
-use Rattle.tags.proofs.Laying.{laid_cleared, laid_got, laid_refused}
+use Rattle.tags.proofs.Laying.{laid_got, laid_refused}
 
 -- the forms, told by the character behind the mark and the one behind the word
 module _ (start : Mark) (p : definition.Place) where
@@ -90,29 +88,31 @@ module _ (flow : Bool) (p : definition.Place) where
     unfolding scan_tag ◌>>=◌ need
     scan_ended f = rw (e, f)
 
-module _ {text before after : List ℕ} {start : Mark} {used : ℕ} {v : Texts} {r : Reading} (flow : Bool)
-    (h : Indicated text start used) (l : Lays text before after v (tag_texts start (view text (first_at start)))) where
-  pub tag_refused : {f : Refusal} → v ≡ Refused f → r ≡ reading.Refused f → Lexes text before after used r (scan_tag flow (view text (first_at start)))
-  tag_refused e g = lexes_refused g (scan_refused flow (view text (first_at start)) (laid_refused l e)) (laid_cleared l e)
+module _ {text before after : List ℕ} {start : Mark} {used : ℕ} (flow : Bool) (h : Indicated text start used) where
+  pub tag_refused : {f : Refusal} → Lays text before after (Err f) (tag_texts start (view text (first_at start)))
+      → Reads text before after used (Err f) (scan_tag flow (view text (first_at start)))
+  tag_refused l = reads_refused (scan_refused flow (view text (first_at start)) (laid_refused l)) l.kept
 
-  module _ {a b c : ℕ} {q : Place} (e : v ≡ Got a b q) (j : c ≡ peek (chars (drop q.at text)) 0) where
-    pub tag_open : {room : List ℕ} → ends flow c ≡ false → r ≡ reading.Refused (record { number = 26; mark = q.mark }) → length after ≡ length before
-        → room ≡ replicate (length after) 0 → Lexes text before room used r (scan_tag flow (view text (first_at start)))
-    tag_open f g i z =
-        let t = laid_got l e in
-        lexes_refused g (scan_open flow (view text (first_at start)) t.1 (rw (← t.2.place, ← j) f) ∙ rw (← t.2.place)) (z ∙ rw i)
+  module _ {v : Texts} {c : ℕ} (l : Lays text before after (Ok v) (tag_texts start (view text (first_at start))))
+      (j : c ≡ peek (chars (drop v.place.at text)) 0) where
+    pub tag_open : ends flow c ≡ false
+        → Reads text before after used (Err (record { number = 26; mark = v.place.mark })) (scan_tag flow (view text (first_at start)))
+    tag_open f =
+        let t = laid_got l in
+        reads_refused (scan_open flow (view text (first_at start)) t.1 (rw (← t.2.place, ← j) f) ∙ rw (← t.2.place)) l.kept
 
-    pub tag_ended : {one other : Text} {w : ℕ} → ends flow c ≡ true → one ≡ record { at = used; len = a % 2 ^ 32 } → w ≡ a % 2 ^ 32
-        → other ≡ record { at = used + w; len = b % 2 ^ 32 }
-        → r ≡ reading.Got (record { token = record { kind = kind.Tag one other; start = start; end = q.mark }; next = q })
-        → Lexes text before after used r (scan_tag flow (view text (first_at start)))
+    pub tag_ended : {one other : Text} {w : ℕ} → ends flow c ≡ true → one ≡ record { at = used; len = v.one % 2 ^ 32 } → w ≡ v.one % 2 ^ 32
+        → other ≡ record { at = used + w; len = v.other % 2 ^ 32 }
+        → Reads text before after used
+        (Ok (record { token = record { kind = kind.Tag one other; start = start; end = v.place.mark }; next = v.place }))
+        (scan_tag flow (view text (first_at start)))
     unfolding laid kind_bytes text_size
-    tag_ended f o m n g =
-        let x = laid_got l e in
+    tag_ended f o m n =
+        let x = laid_got l in
         let t = x.0 in
         let k = x.2 in
         let at = texts_at h.given t.one t.other k.one k.other (omega (arith, k.few, k.stands.within)) o m n in
-        lexes_got g (scan_ended flow (view text (first_at start)) x.1 (rw (← k.place, ← j) f))
+        reads_got (scan_ended flow (view text (first_at start)) x.1 (rw (← k.place, ← j) f))
         (rw (at.0, at.1, ← k.place))
         k.place
         k.bytes
