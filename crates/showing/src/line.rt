@@ -2,9 +2,9 @@
 ghost use Rattle.std.specs.Prelude.{◌<◌, ◌≤◌, length};
 ghost use Rattle.showing.specs.Window.{Within};
 
-use crate::count::least;
-use crate::put::{put_blanks, put_shown, put_text};
-use crate::show::char_len;
+use crate::show::{Shown, char_len};
+use std::fmt;
+use std::fmt::Display;
 
 // The most characters of a line that are shown, and the most before the place where the line has more.
 const WINDOW: usize = 70;
@@ -27,18 +27,16 @@ fn skip_chars(s: &[u8], from: usize, n: usize) -> usize
     ensures { (from ≤ result) × (result ≤ length s.now) }
 {
     let mut at = from;
-    let mut i = 0;
-    while i < n {
+    for _ in 0..n {
         if s.len() <= at {
             return at;
         }
         at += char_len(s, at);
-        i += 1;
     }
     at
 }
 
-// How many characters a text has.
+// How many characters a text has. By hand: a step is a character of one to four bytes.
 fn count_chars(s: &[u8]) -> usize
     ensures { result ≤ length s.now }
 {
@@ -70,13 +68,11 @@ fn is_space(b: u8) -> bool {
 fn begins_line(text: &[u8], at: usize) -> bool
     requires { (0 < at) × (at ≤ length text.now) }
 {
-    if text[at - 1] == b'\n' {
-        return true;
+    match text[at - 1] {
+        b'\n' => true,
+        b'\r' => utf8::byte(text, at) != b'\n',
+        _ => false,
     }
-    if text[at - 1] == b'\r' {
-        return utf8::byte(text, at) != b'\n';
-    }
-    false
 }
 
 // Where the line begins in which a place stands.
@@ -84,56 +80,44 @@ fn line_start(text: &[u8], place: usize) -> usize
     requires { place ≤ length text.now }
     ensures { result ≤ place }
 {
-    let mut at = place;
-    while 0 < at {
+    for at in (1..=place).rev() {
         if begins_line(text, at) {
             return at;
         }
-        at -= 1;
     }
-    at
+    0
 }
 
 // Where the line ends in which a place stands.
-pub fn line_end(text: &[u8], place: usize) -> usize
+fn line_end(text: &[u8], place: usize) -> usize
     requires { place ≤ length text.now }
     ensures { (place ≤ result) × (result ≤ length text.now) }
 {
-    let mut at = place;
-    while at < text.len() {
+    for at in place..text.len() {
         if is_break(text[at]) {
             return at;
         }
-        at += 1;
     }
-    at
+    text.len()
 }
 
-// Where the last line ends that has more than blanks. 0: there is none.
+// Where the last line ends that has more than blanks, if there is one.
 fn text_end(text: &[u8]) -> usize
     ensures { result ≤ length text.now }
 {
-    let mut at = text.len();
-    while 0 < at {
-        if !is_space(text[at - 1]) {
-            return at;
+    for at in (0..text.len()).rev() {
+        if !is_space(text[at]) {
+            return at + 1;
         }
-        at -= 1;
     }
-    at
+    0
 }
 
 // How many characters of a line are left out before the window.
 fn left_out(all: usize, before: usize) -> usize
     ensures { (result ≤ all) × (result ≤ before) }
 {
-    if all <= WINDOW {
-        return 0;
-    }
-    if before <= BEFORE {
-        return 0;
-    }
-    least(before - BEFORE, all - WINDOW)
+    all.saturating_sub(WINDOW).min(before.saturating_sub(BEFORE))
 }
 
 // The window of a line around a place in it.
@@ -147,77 +131,59 @@ fn window_of(line: &[u8], place: usize) -> Window
     let from = skip_chars(line, 0, out);
     let to = skip_chars(line, from, WINDOW);
     Window {
-        from: from,
-        to: to,
+        from,
+        to,
         cut_front: 0 < out,
         cut_end: to < line.len(),
         before: before - out,
     }
 }
 
-// Three dots where a line is cut.
-fn put_cut(out: &mut [u8], at: usize, cut: bool) -> usize
-    ensures { result ≤ length out.new }
-{
-    if cut {
-        return put_text(out, at, b"...");
-    }
-    least(at, out.len())
+// Dots where a line is cut.
+fn dots(cut: bool) -> &'static str {
+    if cut { "..." } else { "" }
 }
 
-// The columns that the dots take.
-fn cut_width(cut: bool) -> usize
-    ensures { result ≤ 3 }
-{
-    if cut { 3 } else { 0 }
+fn write_blanks<W: fmt::Write>(f: &mut fmt::Formatter<W>, n: usize) -> fmt::Result {
+    for _ in 0..n {
+        f.write_str(" ")?;
+    }
+    Ok(())
 }
 
 // A window of a line with the caret below it, two blanks from the margin.
-fn put_window(out: &mut [u8], at: usize, line: &[u8], w: Window) -> usize
+fn write_window<W: fmt::Write>(f: &mut fmt::Formatter<W>, line: &[u8], w: Window) -> fmt::Result
     requires { Within (length line.now) w }
-    ensures { result ≤ length out.new }
 {
-    let from = w.from;
-    let to = w.to;
-    let front = put_text(out, at, b"  ");
-    let dots = put_cut(out, front, w.cut_front);
-    let shown = put_shown(out, dots, &line[from..to]);
-    let cut = put_cut(out, shown, w.cut_end);
-    let below = put_text(out, cut, b"\n  ");
-    let indent = put_blanks(out, below, cut_width(w.cut_front));
-    let caret = put_blanks(out, indent, w.before);
-    put_text(out, caret, b"^\n")
+    let front = dots(w.cut_front);
+    let shown = Shown(&line[w.from..w.to]);
+    write!(f, "  {}{}{}\n  ", front, shown, dots(w.cut_end))?;
+    write_blanks(f, front.len())?;
+    write_blanks(f, w.before)?;
+    f.write_str("^\n")
 }
 
-// A line with the caret below a place in it; nothing for an empty line.
-fn put_marked(out: &mut [u8], at: usize, line: &[u8], place: usize) -> usize
-    requires { place ≤ length line.now }
-    ensures { result ≤ length out.new }
-{
-    if line.len() == 0 {
-        return least(at, out.len());
+// The line in which a place of a text stands, with the caret below the place; nothing for an empty line.
+// At the end of the text the place is the end of the last line that has more than blanks.
+#[derive(Clone, Copy)]
+pub struct Marked<'a> {
+    pub text: &'a [u8],
+    pub place: usize,
+}
+
+impl<'a> Display for Marked<'a> {
+    fn fmt<W: fmt::Write>(&self, f: &mut fmt::Formatter<W>) -> fmt::Result {
+        let text = self.text;
+        let place = if self.place < text.len() {
+            self.place
+        } else {
+            text_end(text)
+        };
+        let start = line_start(text, place);
+        let line = &text[start..line_end(text, place)];
+        if line.is_empty() {
+            return Ok(());
+        }
+        write_window(f, line, window_of(line, place - start))
     }
-    put_window(out, at, line, window_of(line, place))
-}
-
-// The place to show. At the end of the text it is the end of the last line that has more than blanks.
-fn shown_place(text: &[u8], place: usize) -> usize
-    requires { place ≤ length text.now }
-    ensures { result ≤ length text.now }
-{
-    if place == text.len() {
-        return text_end(text);
-    }
-    place
-}
-
-// The line in which a place stands, with the caret.
-pub fn put_line(out: &mut [u8], at: usize, text: &[u8], place: usize) -> usize
-    requires { place ≤ length text.now }
-    ensures { result ≤ length out.new }
-{
-    let p = shown_place(text, place);
-    let start = line_start(text, p);
-    let end = line_end(text, p);
-    put_marked(out, at, &text[start..end], p - start)
 }
