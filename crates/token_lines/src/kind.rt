@@ -1,135 +1,98 @@
 // The line of a token.
-use crate::out::{Waiting, put_number, put_quoted, put_text};
-use outlets::Outlet;
-use records::token::kind_number;
-use showing::count::least;
-use showing::line::line_end;
-use showing::rows::row_words;
+use crate::Output;
+use crate::quoted::put_quoted;
+use std::io;
 use yaml_lexeme::{Kind, Style, Text, Token};
 use yaml_text::Mark;
 
-// The names of kinds, a row each, by the number that a record has for the kind.
-const KINDS: [u8; 347] = *b"
-01 StreamStart
-02 StreamEnd
-03 VersionDirective
-04 TagDirective
-05 DocumentStart
-06 DocumentEnd
-07 ByteOrderMark
-08 BlockSequenceStart
-09 BlockMappingStart
-10 BlockEnd
-11 FlowSequenceStart
-12 FlowSequenceEnd
-13 FlowMappingStart
-14 FlowMappingEnd
-15 BlockEntry
-16 FlowEntry
-17 Key
-18 Value
-19 Alias
-20 Anchor
-21 Tag
-22 Scalar
-23 ReservedDirective
-";
-
 // `LINE:COLUMN` and a blank, with columns from 1.
-fn put_mark(outlet: &mut Outlet, out: &mut [u8], o: Waiting, m: Mark) -> Waiting {
-    let line = put_number(outlet, out, o, m.line as u64);
-    let colon = put_text(outlet, out, line, b":");
-    let col = put_number(outlet, out, colon, m.col as u64 + 1);
-    put_text(outlet, out, col, b" ")
+fn put_mark(to: &mut Output, m: Mark) -> io::Result<()> {
+    to.put_number(m.line as u64)?;
+    to.put(b":")?;
+    to.put_number(m.col as u64 + 1)?;
+    to.put(b" ")
 }
 
-// The words of a number among rows.
-fn put_row(outlet: &mut Outlet, out: &mut [u8], o: Waiting, rows: &[u8], number: u32) -> Waiting {
-    let from = row_words(rows, number);
-    let to = line_end(rows, from);
-    put_text(outlet, out, o, &rows[from..to])
+fn name_of(k: Kind) -> &'static str {
+    match k {
+        Kind::StreamStart => "StreamStart",
+        Kind::StreamEnd => "StreamEnd",
+        Kind::VersionDirective { .. } => "VersionDirective",
+        Kind::TagDirective { .. } => "TagDirective",
+        Kind::DocumentStart => "DocumentStart",
+        Kind::DocumentEnd => "DocumentEnd",
+        Kind::ByteOrderMark => "ByteOrderMark",
+        Kind::BlockSequenceStart => "BlockSequenceStart",
+        Kind::BlockMappingStart => "BlockMappingStart",
+        Kind::BlockEnd => "BlockEnd",
+        Kind::FlowSequenceStart => "FlowSequenceStart",
+        Kind::FlowSequenceEnd => "FlowSequenceEnd",
+        Kind::FlowMappingStart => "FlowMappingStart",
+        Kind::FlowMappingEnd => "FlowMappingEnd",
+        Kind::BlockEntry => "BlockEntry",
+        Kind::FlowEntry => "FlowEntry",
+        Kind::Key => "Key",
+        Kind::Value => "Value",
+        Kind::Alias(_) => "Alias",
+        Kind::Anchor(_) => "Anchor",
+        Kind::Tag { .. } => "Tag",
+        Kind::Scalar { .. } => "Scalar",
+        Kind::ReservedDirective { .. } => "ReservedDirective",
+    }
 }
 
-fn put_kind(outlet: &mut Outlet, out: &mut [u8], o: Waiting, k: Kind) -> Waiting {
-    put_row(outlet, out, o, &KINDS, kind_number(k))
-}
-
-fn put_style(outlet: &mut Outlet, out: &mut [u8], o: Waiting, s: Style) -> Waiting {
+fn style_of(s: Style) -> &'static str {
     match s {
-        Style::Plain => put_text(outlet, out, o, b" plain"),
-        Style::SingleQuoted => put_text(outlet, out, o, b" single quoted"),
-        Style::DoubleQuoted => put_text(outlet, out, o, b" double quoted"),
-        Style::Literal => put_text(outlet, out, o, b" literal"),
-        Style::Folded => put_text(outlet, out, o, b" folded"),
+        Style::Plain => " plain",
+        Style::SingleQuoted => " single quoted",
+        Style::DoubleQuoted => " double quoted",
+        Style::Literal => " literal",
+        Style::Folded => " folded",
     }
 }
 
 // A text among the decoded bytes, as far as it lies in them.
-fn put_one(outlet: &mut Outlet, out: &mut [u8], o: Waiting, bytes: &[u8], t: Text) -> Waiting {
-    let from = least(t.at as usize, bytes.len());
-    let to = from + least(t.len as usize, bytes.len() - from);
-    let blank = put_text(outlet, out, o, b" ");
-    put_quoted(outlet, out, blank, &bytes[from..to])
+fn put_one(to: &mut Output, bytes: &[u8], t: Text) -> io::Result<()> {
+    let from = (t.at as usize).min(bytes.len());
+    let behind = &bytes[from..];
+    let len = (t.len as usize).min(behind.len());
+    to.put(b" ")?;
+    put_quoted(to, &behind[..len])
 }
 
-fn put_two(
-    outlet: &mut Outlet,
-    out: &mut [u8],
-    o: Waiting,
-    bytes: &[u8],
-    t: Text,
-    u: Text,
-) -> Waiting {
-    let first = put_one(outlet, out, o, bytes, t);
-    put_one(outlet, out, first, bytes, u)
-}
-
-fn put_scalar(
-    outlet: &mut Outlet,
-    out: &mut [u8],
-    o: Waiting,
-    bytes: &[u8],
-    s: Style,
-    t: Text,
-) -> Waiting {
-    let style = put_style(outlet, out, o, s);
-    put_one(outlet, out, style, bytes, t)
+fn put_two(to: &mut Output, bytes: &[u8], t: Text, u: Text) -> io::Result<()> {
+    put_one(to, bytes, t)?;
+    put_one(to, bytes, u)
 }
 
 // `1.2`.
-fn put_version(outlet: &mut Outlet, out: &mut [u8], o: Waiting, major: u32, minor: u32) -> Waiting {
-    let blank = put_text(outlet, out, o, b" ");
-    let first = put_number(outlet, out, blank, major as u64);
-    let dot = put_text(outlet, out, first, b".");
-    put_number(outlet, out, dot, minor as u64)
+fn put_version(to: &mut Output, major: u32, minor: u32) -> io::Result<()> {
+    to.put(b" ")?;
+    to.put_number(major as u64)?;
+    to.put(b".")?;
+    to.put_number(minor as u64)
 }
 
 // What a token holds.
-fn put_held(outlet: &mut Outlet, out: &mut [u8], o: Waiting, bytes: &[u8], k: Kind) -> Waiting {
+fn put_held(to: &mut Output, bytes: &[u8], k: Kind) -> io::Result<()> {
     match k {
-        Kind::VersionDirective { major, minor } => put_version(outlet, out, o, major, minor),
-        Kind::TagDirective { handle, prefix } => put_two(outlet, out, o, bytes, handle, prefix),
-        Kind::Alias(t) => put_one(outlet, out, o, bytes, t),
-        Kind::Anchor(t) => put_one(outlet, out, o, bytes, t),
-        Kind::Tag { handle, suffix } => put_two(outlet, out, o, bytes, handle, suffix),
-        Kind::Scalar { style, text } => put_scalar(outlet, out, o, bytes, style, text),
-        Kind::ReservedDirective { name, parameters } => put_two(
-            outlet, out, o, bytes, name, parameters,
-        ),
-        _ => o,
+        Kind::VersionDirective { major, minor } => put_version(to, major, minor),
+        Kind::TagDirective { handle, prefix } => put_two(to, bytes, handle, prefix),
+        Kind::Alias(t) => put_one(to, bytes, t),
+        Kind::Anchor(t) => put_one(to, bytes, t),
+        Kind::Tag { handle, suffix } => put_two(to, bytes, handle, suffix),
+        Kind::Scalar { style, text } => {
+            to.put(style_of(style).as_bytes())?;
+            put_one(to, bytes, text)
+        }
+        Kind::ReservedDirective { name, parameters } => put_two(to, bytes, name, parameters),
+        _ => Ok(()),
     }
 }
 
-pub fn put_token(
-    outlet: &mut Outlet,
-    out: &mut [u8],
-    o: Waiting,
-    t: Token,
-    bytes: &[u8],
-) -> Waiting {
-    let k = t.kind;
-    let mark = put_mark(outlet, out, o, t.start);
-    let kind = put_kind(outlet, out, mark, k);
-    let held = put_held(outlet, out, kind, bytes, k);
-    put_text(outlet, out, held, b"\n")
+pub fn put_token(to: &mut Output, t: Token, bytes: &[u8]) -> io::Result<()> {
+    put_mark(to, t.start)?;
+    to.put(name_of(t.kind).as_bytes())?;
+    put_held(to, bytes, t.kind)?;
+    to.put(b"\n")
 }

@@ -2,4 +2,9 @@
 #![tactic(auto)]
 
 pub mod kind;
-pub mod out;
+mod quoted;
+
+use outlets::buffered::Buffered;
+
+// Standard output, with 8,192 bytes that may wait.
+pub type Output<'a> = Buffered<'a, 8_192>;
