@@ -5,11 +5,11 @@ ghost use Rattle.std.specs.Prelude.{◌<◌, ◌^◌, ◌≤◌, ◌≡◌, leng
 ghost use Rattle.printing.specs.Written.{Written};
 ghost use Rattle.closings.specs.Record.{record_text, told_column};
 
-use outlets::Outlet;
+use outlets::{Outlet, fail};
 use printing::put_numbers;
 use rooms::copy;
-use saving::{Begun, NAME_ROOM, begin_file, close_output, drop_file, finish_file};
-use stacks::at_most;
+use saving::{Begun, begin_file, close_output, drop_file, finish_file};
+use std::io;
 use yaml_job::Closing;
 
 // `not done `, and four numbers of up to ten digits with a byte behind each.
@@ -19,7 +19,7 @@ const RECORD_ROOM: usize = 53;
 fn column(col: u32) -> u32
     ensures { result ≡ told_column col }
 {
-    at_most(4_294_967_294, col) + 1
+    col.min(4_294_967_294) + 1
 }
 
 // Bytes at the start; where the next goes.
@@ -52,7 +52,7 @@ fn put_record(out: &mut [u8], c: Closing) -> usize
     }
 }
 
-fn write_record(to: &mut Outlet, c: Closing) -> bool {
+fn write_record(to: &mut Outlet, c: Closing) -> io::Result<()> {
     let mut room = [0u8; RECORD_ROOM];
     let n = put_record(&mut room, c);
     to.put(&room[0..n])
@@ -60,35 +60,29 @@ fn write_record(to: &mut Outlet, c: Closing) -> bool {
 
 // Behind the seeds.
 fn print_record(rt: &HostRuntime, c: Closing) -> bool {
-    let mut out = Outlet::output(rt);
-    if write_record(&mut out, c) {
-        return close_output(rt);
+    if let Err(e) = write_record(&mut Outlet::Output(rt.stdout()), c) {
+        fail(rt, "standard output", e);
+        return false;
     }
-    out.fail(rt, b"standard output");
-    false
+    close_output(rt)
 }
 
-fn file_record(rt: &HostRuntime, c: Closing, file: &[u8]) -> bool {
-    let mut name = [0u8; NAME_ROOM];
-    match begin_file(rt, file, &mut name) {
-        Some(begun) => write_begun(rt, c, begun, &name, file),
-        None => false,
+fn file_record(rt: &HostRuntime, c: Closing, mut begun: Begun, file: &str) -> bool {
+    if let Err(e) = write_record(&mut begun.out, c) {
+        fail(rt, file, e);
+        drop_file(rt, begun);
+        return false;
     }
-}
-
-fn write_begun(rt: &HostRuntime, c: Closing, mut begun: Begun, name: &[u8], file: &[u8]) -> bool {
-    if write_record(&mut begun.out, c) {
-        return finish_file(rt, begun, name, file);
-    }
-    begun.out.fail(rt, file);
-    drop_file(rt, begun, name);
-    false
+    finish_file(rt, begun, file)
 }
 
 // Whether the record stands in FILE, or on standard output where no FILE is named. Where it doesn't, standard error says why.
-pub fn save_record(rt: &HostRuntime, c: Closing, file: &[u8]) -> bool {
-    if file.len() == 0 {
+pub fn save_record(rt: &HostRuntime, c: Closing, file: Option<&str>) -> bool {
+    let Some(named) = file else {
         return print_record(rt, c);
+    };
+    match begin_file(rt, named) {
+        Some(begun) => file_record(rt, c, begun, named),
+        None => false,
     }
-    file_record(rt, c, file)
 }

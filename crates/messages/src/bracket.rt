@@ -1,103 +1,86 @@
 // The bracket that is open where a text is refused, found by taking the tokens of the text once more.
+ghost use Rattle.std.specs.Prelude.{◌≤◌};
+
 use crate::count::enough_calls;
+use chars::mark::origin;
 use driver::held::HELD_WORDS;
 use records::RECORD_WORDS;
 use records::found::token_of;
 use stream::{Next, next_token};
-use wording::bracket::{Open, no_open};
+use wording::bracket::{Bracket, Open};
 use yaml_lexeme::{Kind, Token};
-use yaml_text::Mark;
 
-// Room for the open brackets, innermost last: whether it is a brace, line and column of each. No more than 255 are ever open.
-const OPEN_WORDS: usize = 765;
+// No more brackets are ever open.
+const MOST_OPEN: usize = 255;
 
-// Stores a bracket behind so many; how many are open then.
-fn opened(opens: &mut [u32; OPEN_WORDS], depth: usize, brace: u32, mark: Mark) -> usize {
-    if 255 <= depth {
-        return depth;
-    }
-    opens[3 * depth] = brace;
-    opens[3 * depth + 1] = mark.line;
-    opens[3 * depth + 2] = mark.col;
-    depth + 1
+// The brackets that are open: the first `depth`, innermost last.
+#[derive(Clone, Copy)]
+struct Opens {
+    brackets: [Open; MOST_OPEN],
+    depth: usize,
+    ghost within: { depth ≤ 255 },
 }
 
-fn closed(depth: usize) -> usize {
-    if depth == 0 { 0 } else { depth - 1 }
-}
-
-// How many brackets are open behind a token. A mapping of one pair has no bracket: its start and its end take up no text.
-fn behind_token(opens: &mut [u32; OPEN_WORDS], depth: usize, t: Token) -> usize {
-    if t.start.index == t.end.index {
-        return depth;
-    }
-    let k = t.kind;
-    match k {
-        Kind::FlowSequenceStart => opened(opens, depth, 0, t.start),
-        Kind::FlowMappingStart => opened(opens, depth, 1, t.start),
-        Kind::FlowSequenceEnd => closed(depth),
-        Kind::FlowMappingEnd => closed(depth),
-        _ => depth,
-    }
-}
-
-// The same of a record.
-fn behind_record(opens: &mut [u32; OPEN_WORDS], depth: usize, token: [u32; RECORD_WORDS]) -> usize {
-    let r = token_of(&token, 0);
-    match r {
-        Some(t) => behind_token(opens, depth, t),
-        None => depth,
-    }
-}
-
-fn is_token(a: Next) -> bool {
-    match a {
-        Next::Token => true,
-        _ => false,
-    }
-}
-
-// How many brackets are open among the tokens that are given from a state on.
-fn open_given(
-    opens: &mut [u32; OPEN_WORDS],
-    held: &mut [u32; HELD_WORDS],
-    text: &[u8],
-    words: &mut [u32],
-    bytes: &mut [u8],
-) -> usize {
-    let mut token = [0u32; RECORD_WORDS];
-    let mut depth = 0;
-    let mut left = enough_calls(text);
-    while 0 < left {
-        let a = next_token(held, text, words, bytes, &mut token);
-        if !is_token(a) {
-            return depth;
+impl Opens {
+    fn new() -> Opens {
+        let none = Open {
+            bracket: Bracket::Square,
+            mark: origin(),
+        };
+        Opens {
+            brackets: [none; MOST_OPEN],
+            depth: 0,
         }
-        depth = behind_record(opens, depth, token);
-        left -= 1;
     }
-    depth
+
+    fn open(&mut self, bracket: Bracket, t: Token) {
+        if self.depth < MOST_OPEN {
+            self.brackets[self.depth] = Open {
+                bracket,
+                mark: t.start,
+            };
+            self.depth += 1;
+        }
+    }
+
+    fn close(&mut self) {
+        self.depth = self.depth.saturating_sub(1);
+    }
+
+    // Behind a token. A mapping of one pair has no bracket: its start and its end take up no text.
+    fn take(&mut self, t: Token) {
+        if t.start.index == t.end.index {
+            return;
+        }
+        match t.kind {
+            Kind::FlowSequenceStart => self.open(Bracket::Square, t),
+            Kind::FlowMappingStart => self.open(Bracket::Curly, t),
+            Kind::FlowSequenceEnd | Kind::FlowMappingEnd => self.close(),
+            _ => {}
+        }
+    }
+
+    fn latest(&self) -> Option<Open> {
+        if self.depth == 0 {
+            return None;
+        }
+        Some(self.brackets[self.depth - 1])
+    }
 }
 
 // The latest bracket that is still open among the tokens that are given. Tokens that wait are not seen.
-pub(crate) fn latest_open(text: &[u8], words: &mut [u32], bytes: &mut [u8]) -> Open {
-    let mut opens = [0u32; OPEN_WORDS];
+pub(crate) fn latest_open(text: &[u8], words: &mut [u32], bytes: &mut [u8]) -> Option<Open> {
+    let mut opens = Opens::new();
     let mut held = [0u32; HELD_WORDS];
-    let depth = open_given(&mut opens, &mut held, text, words, bytes);
-    if depth == 0 {
-        return no_open();
+    let mut token = [0u32; RECORD_WORDS];
+    for _ in 0..enough_calls(text) {
+        let a = next_token(&mut held, text, words, bytes, &mut token);
+        let Ok(Next::Token) = a else {
+            break;
+        };
+        if let Some(t) = token_of(&token, 0) {
+            opens.take(t);
+        }
     }
-    if 255 < depth {
-        return no_open();
-    }
-    let at = 3 * (depth - 1);
-    let m = Mark {
-        index: 0,
-        line: opens[at + 1],
-        col: opens[at + 2],
-    };
-    Open {
-        sign: if opens[at] == 0 { b'[' } else { b'{' },
-        mark: m,
-    }
+    opens.latest()
 }
