@@ -4,45 +4,13 @@
 mod listed;
 
 use crate::listed::list_plan;
-use arguments::word::{MOST_WORD, is};
-use arguments::{Arguments, Verb, copy_word, read_arguments};
+use arguments::word::MOST_WORD;
+use arguments::{Verb, copy_word, read_arguments};
 use jobs::run_plan;
 use std::fs::{File, OpenOptions};
 use std::os::fd::{AsRawFd, IntoRawFd};
 use usage::status::UNREAD;
 use usage::{give_help, say_fault, say_no_command};
-
-// What the first word asks for.
-#[derive(Clone, Copy)]
-enum Asked {
-    Job,
-    Tokens,
-    Help,
-    Other,
-}
-
-fn asked_by(s: &[u8]) -> Asked {
-    if is(s, b"job") {
-        return Asked::Job;
-    }
-    if is(s, b"tokens") {
-        return Asked::Tokens;
-    }
-    if is(s, b"help") {
-        return Asked::Help;
-    }
-    if is(s, b"--help") {
-        return Asked::Help;
-    }
-    Asked::Other
-}
-
-// A word that is too long is none of those.
-fn first_word(rt: &HostRuntime) -> Asked {
-    let mut space = [0u8; MOST_WORD];
-    let n = copy_word(rt, 1, &mut space);
-    asked_by(&space[..n])
-}
 
 // The numbers of standard input and error. Output's lies between.
 const INPUT: i32 = 0;
@@ -83,29 +51,20 @@ fn take_closed(rt: &HostRuntime) {
     take_outputs(rt);
 }
 
-fn run_job(rt: &HostRuntime, text: &mut [u8], words: &mut [u32], bytes: &mut [u8]) -> u8 {
-    let a = read_arguments(rt, Verb::Job);
-    match a {
-        Arguments::Plan(p) => run_plan(rt, p, text, words, bytes),
-        Arguments::Wrong { fault, at } => say_fault(rt, fault, at),
-    }
-}
-
-fn run_tokens(rt: &HostRuntime, text: &mut [u8], words: &mut [u32], bytes: &mut [u8]) -> u8 {
-    let a = read_arguments(rt, Verb::Tokens);
-    match a {
-        Arguments::Plan(p) => list_plan(rt, p, text, words, bytes),
-        Arguments::Wrong { fault, at } => say_fault(rt, fault, at),
-    }
-}
-
+// A word that is too long is no command.
 fn run_first(rt: &HostRuntime, text: &mut [u8], words: &mut [u32], bytes: &mut [u8]) -> u8 {
-    let w = first_word(rt);
-    match w {
-        Asked::Job => run_job(rt, text, words, bytes),
-        Asked::Tokens => run_tokens(rt, text, words, bytes),
-        Asked::Help => give_help(rt),
-        Asked::Other => {
+    let mut space = [0u8; MOST_WORD];
+    match copy_word(rt, 1, &mut space).unwrap_or(b"") {
+        b"job" => match read_arguments(rt, Verb::Job) {
+            Ok(plan) => run_plan(rt, plan, text, words, bytes),
+            Err(w) => say_fault(rt, w),
+        },
+        b"tokens" => match read_arguments(rt, Verb::Tokens) {
+            Ok(plan) => list_plan(rt, plan, text, words, bytes),
+            Err(w) => say_fault(rt, w),
+        },
+        b"help" | b"--help" => give_help(rt),
+        _ => {
             say_no_command(rt);
             UNREAD
         }

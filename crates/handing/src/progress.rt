@@ -22,17 +22,6 @@ fn this_second(rt: &HostRuntime) -> u64 {
     }
 }
 
-pub fn start(rt: &HostRuntime) -> Progress {
-    if !rt.stderr().is_terminal() {
-        return Progress(None);
-    }
-    Progress(Some(Shown {
-        second: this_second(rt),
-        begun: false,
-        line: false,
-    }))
-}
-
 // To the start of the line, and nothing behind it.
 const CLEAR_LINE: &str = "\r\x1b[K";
 
@@ -48,23 +37,34 @@ fn next_second(rt: &HostRuntime, s: Shown, second: u64, count: u32) -> Shown {
     }
 }
 
-// The clock is read once in 1,024 seeds.
-pub fn tell(rt: &HostRuntime, p: Progress, count: u32) -> Progress {
-    let Some(s) = p.0 else {
-        return p;
-    };
-    if count % 1024 != 0 {
-        return p;
+impl Progress {
+    pub fn start(rt: &HostRuntime) -> Progress {
+        if !rt.stderr().is_terminal() {
+            return Progress(None);
+        }
+        Progress(Some(Shown {
+            second: this_second(rt),
+            begun: false,
+            line: false,
+        }))
     }
-    let second = this_second(rt);
-    if second == s.second {
-        return p;
-    }
-    Progress(Some(next_second(rt, s, second, count)))
-}
 
-pub fn end(rt: &HostRuntime, p: Progress) {
-    if let Some(Shown { line: true, .. }) = p.0 {
-        let _ = eprint!(rt; "{}", CLEAR_LINE);
+    // The clock is read once in 1,024 seeds.
+    pub fn tell(&mut self, rt: &HostRuntime, count: u32) {
+        let Some(s) = self.0 else {
+            return;
+        };
+        if count % 1024 == 0 {
+            let second = this_second(rt);
+            if second != s.second {
+                self.0 = Some(next_second(rt, s, second, count));
+            }
+        }
+    }
+
+    pub fn end(&self, rt: &HostRuntime) {
+        if let Some(Shown { line: true, .. }) = self.0 {
+            let _ = eprint!(rt; "{}", CLEAR_LINE);
+        }
     }
 }

@@ -1,9 +1,6 @@
--- What holds before each call: the calls so far handed i seeds over, and what waits to be written is in the room.
-use Prim.Native.Nat.{◌+◌, ◌<◌, ◌≤◌, ℕ}
-use mathlib.Core.List.{List, [], ◌++◌, ◌∷◌}
-use mathlib.Core.Path.{◌∙◌, ◌≡◌, ap, refl}
-use native.Mathlib.Omega.{arith}
-use lib.ListN.{length, length-append, replicate}
+-- What holds before each call: the calls so far handed i seeds over.
+use Rattle.std.specs.Prelude.{◌+◌, ◌<◌, ℕ, List, [], ◌++◌, ◌∷◌, ◌≡◌, refl, length, replicate}
+use Rattle.std.proofs.Common.{◌∙◌, ap, arith, length-append}
 use Rattle.yaml_scan.specs.Scan.{standard}
 use Rattle.yaml_job.specs.declared.Closing.{Closing}
 use Rattle.yaml_job.specs.declared.JobAnswer.{JobAnswer}
@@ -12,34 +9,28 @@ use Rattle.yaml_job.specs.Job.{Talk}
 use Rattle.job.specs.JobHolds.{JobPromises}
 use Rattle.job.specs.JobRun.{JobGave, JobRun, job_gave, more, none, run_follows, run_not_lost}
 use Rattle.job.specs.Own.{job_words}
-use Rattle.jobs.specs.declared.hand.Handed.{Handed}
-use Rattle.jobs.specs.declared.hand.Handed.TheVariants.{Closed, Lost, Unwritten}
-use Rattle.jobs.specs.Closes.{Closes, Ends, Tells, most_calls}
+use Rattle.jobs.specs.Closes.{Closes, most_calls}
 use Rattle.jobs.specs.Few.{seeds_few}
 
-pub record On (text room₀ st₀ l₀ b₀ room st l b : List ℕ) (n i : ℕ) : Type 0 where
+pub record On (text st₀ l₀ b₀ st l b : List ℕ) (i : ℕ) : Type 0 where
   pub seeds : List (ℕ × ℕ)
   pub run : JobRun standard text st₀ l₀ b₀ seeds st l b
   pub count : length seeds ≡ i
   pub same_words : length l ≡ length l₀
   pub same_bytes : length b ≡ length b₀
-  pub same_room : length room ≡ length room₀
-  pub waits : n ≤ length room
 
-pub on_begin : (text room st l b : List ℕ) → On text room st l b room st l b 0 0
-on_begin text room st l b = record { seeds = []; run = none; count = refl; same_words = refl; same_bytes = refl; same_room = refl; waits = omega arith }
+pub on_begin : (text st l b : List ℕ) → On text st l b st l b 0
+on_begin text st l b = record { seeds = []; run = none; count = refl; same_words = refl; same_bytes = refl }
 
-module _ {text room₀ st₀ l₀ b₀ room st l b : List ℕ} {n i : ℕ} (o : On text room₀ st₀ l₀ b₀ room st l b n i) where
-  pub on_more : {room' st' l' b' : List ℕ} {a : JobAnswer} {v m n' i' : ℕ} → JobPromises standard text st l b st' l' b' a → a ≡ answer.Seed v m → length l' ≡ length l → length b' ≡ length b
-      → length room' ≡ length room → n' ≤ length room' → i' ≡ i + 1 → On text room₀ st₀ l₀ b₀ room' st' l' b' n' i'
-  on_more {v = v} {m = m} p e f g h k j = record {
+module _ {text st₀ l₀ b₀ st l b : List ℕ} {i : ℕ} (o : On text st₀ l₀ b₀ st l b i) where
+  pub on_more : {st' l' b' : List ℕ} {a : JobAnswer} {v m i' : ℕ} → JobPromises standard text st l b st' l' b' a → a ≡ answer.Seed v m → length l' ≡ length l → length b' ≡ length b
+      → i' ≡ i + 1 → On text st₀ l₀ b₀ st' l' b' i'
+  on_more {v = v} {m = m} p e f g j = record {
     seeds = o.seeds ++ ((v, m) ∷ []);
     run = more o.run g (rw e at p);
     count = omega (arith, length-append o.seeds ((v, m) ∷ []), o.count);
     same_words = f ∙ o.same_words;
     same_bytes = g ∙ o.same_bytes;
-    same_room = h ∙ o.same_room;
-    waits = k;
   }
 
   module _ (zeros : st₀ ≡ replicate job_words 0) where
@@ -54,8 +45,3 @@ module _ {text room₀ st₀ l₀ b₀ room st l b : List ℕ} {n i : ℕ} (o : 
 
     pub on_lost : {st' l' b' : List ℕ} {a : JobAnswer} → JobPromises standard text st l b st' l' b' a → a ≡ answer.Lost → ⊥
     on_lost p e = run_not_lost gave (rw e at p)
-
-pub closed_tells : (text : List ℕ) (words room : ℕ) {c : Closing} (h : Handed) → Closes text words room c → Ends c h → Tells text words room h
-closed_tells text words room (Closed d) k e = rw e at k
-closed_tells text words room Unwritten k e = tt
-closed_tells text words room Lost k e = e

@@ -1,10 +1,6 @@
 -- Statuses, case by case.
-use Prim.Native.Nat.{◌<◌, suc, zero, ℕ}
-use mathlib.Core.Bool.{Bool, false, true}
-use mathlib.Core.List.{List}
-use mathlib.Core.Path.{◌≡◌}
-use native.Mathlib.Omega.{arith}
-use lib.ListN.{length, take}
+use Rattle.std.specs.Prelude.{◌<◌, suc, zero, ℕ, Bool, false, true, List, ◌≡◌, length, take, Result, Ok, Err}
+use Rattle.std.proofs.Common.{arith}
 use borrow.Author.Tests.{ne_eqb}
 use Rattle.yaml_text.specs.declared.Mark.{Mark}
 use Rattle.yaml_job.specs.declared.Closing.{Closing}
@@ -12,8 +8,7 @@ use Rattle.yaml_job.specs.declared.Closing.TheVariants.{Done, NotDone}
 use Rattle.sheets.specs.declared.Sheet.{Sheet}
 use Rattle.sheets.specs.declared.Sheet.TheVariants.{Whole}
 use Rattle.sheets.specs.Sheet.{Within}
-use Rattle.jobs.specs.declared.hand.Handed.{Handed}
-use Rattle.jobs.specs.declared.hand.Handed.TheVariants as handed
+use Rattle.jobs.specs.declared.hand.Unhanded.{Unhanded}
 use Rattle.jobs.specs.Closes.{Tells}
 use Rattle.jobs.specs.Status.{Answers, Closed, ReadAnswers, closes, done_status, kept, none, not_kept, status_of, unwritten, whole}
 
@@ -40,8 +35,8 @@ closed_as c allowed e = rw e kept
 
 -- a text
 
-pub handed_closed : (text : List ℕ) (words room : ℕ) (allowed : Bool) (h : Handed) {c : Closing} {r : ℕ} → h ≡ handed.Closed c → Tells text words room h → Closed c allowed r
-    → Answers text words room allowed r
+pub handed_closed : (text : List ℕ) (words room : ℕ) (allowed : Bool) (h : Result Closing Unhanded) {c : Closing} {r : ℕ} → h ≡ Ok c → Tells text words room h
+    → Closed c allowed r → Answers text words room allowed r
 handed_closed text words room allowed h e t kept = closes (rw e at t)
 handed_closed text words room allowed h e t not_kept = none unwritten
 

@@ -1,88 +1,81 @@
 // Handing over the seeds of a job: a line for each, and the closing record to the caller.
-ghost use Rattle.std.specs.Prelude.{◌≡◌, ◌≤◌, length, replicate};
+ghost use Rattle.std.specs.Prelude.{◌≡◌, length, replicate};
 ghost use Rattle.job.specs.Own.{job_words};
-ghost use Rattle.jobs.specs.Closes.{Ends, Tells};
+ghost use Rattle.jobs.specs.Closes.{Tells};
+ghost use Rattle.jobs.specs.declared.hand.Unhanded.TheVariants.{Unwritten};
 
-use handing::{progress, put_seed};
+use handing::progress::Progress;
+use handing::{Lines, put_seed};
 use job::{JOB_WORDS, next_seed};
 use outlets::Outlet;
+use std::io;
 use yaml_job::{Closing, JobAnswer};
 
-// How a job ended.
-#[derive(Clone, Copy)]
-pub(crate) enum Handed {
-    // With its closing record. The lines of all its seeds are written.
-    Closed(Closing),
+// Why a job has no closing record, or its seeds are not all written.
+#[derive(Drop)]
+pub(crate) enum Unhanded {
     // A line could not be written.
-    Unwritten,
+    Unwritten(io::Error),
     // No job comes to this.
     Lost,
+}
+
+impl From<io::Error> for Unhanded {
+    ghost from_gives = { λ e r. r ≡ Unwritten e };
+
+    fn from(e: io::Error) -> Unhanded {
+        Unhanded::Unwritten(e)
+    }
 }
 
 // By demand 3 no more seeds come.
 const MOST_CALLS: u32 = 2_097_156;
 
-// Behind the last seed: what waits is written.
-fn finish(to: &mut Outlet, waiting: &[u8], c: Closing) -> Handed
-    ensures { Ends c result }
-{
-    if to.put(waiting) {
-        return Handed::Closed(c);
-    }
-    Handed::Unwritten
-}
-
 fn hand_seeds(
     rt: &HostRuntime,
-    to: &mut Outlet,
-    room: &mut [u8],
+    to: &mut Lines,
+    progress: &mut Progress,
     state: &mut [u32; JOB_WORDS],
     text: &[u8],
     words: &mut [u32],
     bytes: &mut [u8],
-) -> Handed
-    requires { (11 ≤ length room.old) × (length room.old ≤ 65_536) × (state.old ≡ replicate job_words 0) }
+) -> Result<Closing, Unhanded>
+    requires { state.old ≡ replicate job_words 0 }
     ensures { Tells text.now (length words.old) (length bytes.old) result }
 {
-    let mut p = progress::start(rt);
-    let mut n = 0;
-    let mut i: u32 = 0;
-    while i < MOST_CALLS {
-        let a = next_seed(state, text, words, bytes);
-        match a {
+    for _ in 0..MOST_CALLS {
+        match next_seed(state, text, words, bytes) {
             JobAnswer::Seed { value, count } => {
-                let w = put_seed(to, room, n, value);
-                if !w.good {
-                    progress::end(rt, p);
-                    return Handed::Unwritten;
-                }
-                p = progress::tell(rt, p, count);
-                n = w.used;
+                put_seed(to, value)?;
+                progress.tell(rt, count);
             }
             JobAnswer::Closed(c) => {
-                progress::end(rt, p);
-                return finish(to, &room[..n], c);
+                return Ok(c);
             }
             JobAnswer::Lost => {
-                return Handed::Lost;
+                return Err(Unhanded::Lost);
             }
         }
-        i += 1;
     }
-    Handed::Lost
+    Err(Unhanded::Lost)
 }
 
-// Writes the seeds of the job that a text is, 65,536 bytes at a time, and says on a terminal how far it is.
+// Writes the seeds of the job that a text is, 65,536 bytes at a time, and says on a terminal how far it is. A record comes when all of them are written.
 pub(crate) fn hand_over(
     rt: &HostRuntime,
-    to: &mut Outlet,
+    out: &mut Outlet,
     text: &[u8],
     words: &mut [u32],
     bytes: &mut [u8],
-) -> Handed
+) -> Result<Closing, Unhanded>
     ensures { Tells text.now (length words.old) (length bytes.old) result }
 {
-    let mut room = [0u8; 65536];
+    let mut to = Lines::new(out);
+    let mut progress = Progress::start(rt);
     let mut state = [0u32; JOB_WORDS];
-    hand_seeds(rt, to, &mut room, &mut state, text, words, bytes)
+    let handed = hand_seeds(rt, &mut to, &mut progress, &mut state, text, words, bytes);
+    progress.end(rt);
+    let closing = handed?;
+    to.flush()?;
+    Ok(closing)
 }

@@ -1,44 +1,37 @@
 // The FILEs of --record and --seeds, as an earlier job left them.
+use crate::names::Names;
 use identity::{Identity, is_link, is_same, is_special, of_name};
-use outlets::{fail, path, say};
+use outlets::{fail, say};
 use std::{fs, io};
 
-// The file that the sheet is.
-fn sheet_file(rt: &HostRuntime, sheet: &[u8]) -> Identity {
-    if sheet.len() == 0 {
-        return of_name(rt, b"/dev/stdin");
-    }
-    of_name(rt, sheet)
-}
-
 // Whether a FILE that is named is this file.
-fn is_file(rt: &HostRuntime, a: Identity, file: &[u8]) -> bool {
-    if file.len() == 0 {
-        return false;
+fn is_file(rt: &HostRuntime, a: Option<Identity>, file: Option<&str>) -> bool {
+    match file {
+        Some(name) => is_same(a, of_name(rt, name)),
+        None => false,
     }
-    is_same(a, of_name(rt, file))
 }
 
-fn is_either(rt: &HostRuntime, a: Identity, record: &[u8], seeds: &[u8]) -> bool {
-    is_file(rt, a, record) | is_file(rt, a, seeds)
+// Whether it is the FILE of --record or --seeds.
+fn is_either(rt: &HostRuntime, name: &str, names: Names) -> bool {
+    let a = of_name(rt, name);
+    is_file(rt, a, names.record) | is_file(rt, a, names.seeds)
 }
 
 // Whether a FILE is the sheet itself.
-pub(crate) fn would_lose(rt: &HostRuntime, sheet: &[u8], record: &[u8], seeds: &[u8]) -> bool {
-    is_either(rt, sheet_file(rt, sheet), record, seeds)
+pub(crate) fn would_lose(rt: &HostRuntime, names: Names) -> bool {
+    is_either(rt, names.sheet.unwrap_or("/dev/stdin"), names)
 }
 
 // Whether standard output or error goes to a FILE.
-pub(crate) fn would_mix(rt: &HostRuntime, record: &[u8], seeds: &[u8]) -> bool {
-    let out = is_either(rt, of_name(rt, b"/dev/stdout"), record, seeds);
-    let error = is_either(rt, of_name(rt, b"/dev/stderr"), record, seeds);
-    out | error
+pub(crate) fn would_mix(rt: &HostRuntime, names: Names) -> bool {
+    is_either(rt, "/dev/stdout", names) | is_either(rt, "/dev/stderr", names)
 }
 
 // What an old FILE that stays may hold is of another run.
-fn say_stays(rt: &HostRuntime, file: &[u8], why: &[u8]) {
-    say(rt, file);
-    say(rt, why);
+fn say_stays(rt: &HostRuntime, file: &str, why: &str) {
+    say(rt, file.as_bytes());
+    say(rt, why.as_bytes());
     say(
         rt,
         b" stays as it is, and says nothing of this run. Name another FILE\n",
@@ -46,41 +39,39 @@ fn say_stays(rt: &HostRuntime, file: &[u8], why: &[u8]) {
 }
 
 // Whether nothing but an ordinary file would be removed.
-fn may_go(rt: &HostRuntime, file: &[u8]) -> bool {
-    if is_special(of_name(rt, file)) | is_link(rt, file) {
-        say_stays(rt, file, b": this is no ordinary file, and");
+fn may_go(rt: &HostRuntime, file: &str) -> bool {
+    if is_special(rt, file) | is_link(rt, file) {
+        say_stays(rt, file, ": this is no ordinary file, and");
         return false;
     }
     true
 }
 
-fn unlink(rt: &HostRuntime, file: &[u8]) -> io::Result<()> {
-    fs::remove_file(rt, path(file)?)
-}
-
-fn remove(rt: &HostRuntime, file: &[u8]) -> bool {
-    if file.len() == 0 {
-        return true;
-    }
+fn remove(rt: &HostRuntime, file: &str) -> bool {
     if !may_go(rt, file) {
         return false;
     }
-    match unlink(rt, file) {
+    match fs::remove_file(rt, file) {
         Ok(()) => true,
         Err(e) => {
             if e.kind() == io::ErrorKind::NotFound {
                 return true;
             }
             fail(rt, file, e);
-            say_stays(rt, file, b": it");
+            say_stays(rt, file, ": it");
             false
         }
     }
 }
 
+fn remove_named(rt: &HostRuntime, file: Option<&str>) -> bool {
+    match file {
+        Some(name) => remove(rt, name),
+        None => true,
+    }
+}
+
 // Whether neither is there any more. Standard error says why where one stays. The record goes, if it may, whatever becomes of the seeds.
-pub(crate) fn remove_old(rt: &HostRuntime, record: &[u8], seeds: &[u8]) -> bool {
-    let a = remove(rt, record);
-    let b = remove(rt, seeds);
-    a & b
+pub(crate) fn remove_old(rt: &HostRuntime, names: Names) -> bool {
+    remove_named(rt, names.record) & remove_named(rt, names.seeds)
 }

@@ -2,30 +2,23 @@
 ghost use Rattle.std.specs.Prelude.{length};
 ghost use Rattle.jobs.specs.Status.{Answers, Closed};
 
-use crate::hand::{Handed, hand_over};
-use crate::output::{drop_output, fail_output, finish_output};
+use crate::hand::{Unhanded, hand_over};
+use crate::names::Names;
+use crate::output::finish_seeds;
 use crate::status::status_of;
 use closings::save_record;
 use messages::say_refusal;
-use outlets::say;
-use saving::Begun;
+use outlets::{fail, say};
+use saving::{Begun, drop_file};
 use usage::status::UNWRITTEN;
 use yaml_job::Closing;
 use yaml_text::Refusal;
 
-fn say_sheet(rt: &HostRuntime, sheet: &[u8]) {
-    if sheet.len() == 0 {
-        say(rt, b"standard input");
-    } else {
-        say(rt, sheet);
-    }
-}
-
-fn say_done(rt: &HostRuntime, sheet: &[u8], count: u32, allowed: bool) {
-    if (count != 0) | allowed {
+fn say_done(rt: &HostRuntime, names: Names, count: u32) {
+    if (count != 0) | names.allowed {
         return;
     }
-    say_sheet(rt, sheet);
+    say(rt, names.sheet.unwrap_or("standard input").as_bytes());
     say(
         rt,
         b": the list of seeds is empty. If that is meant, give --allow-empty\n",
@@ -35,60 +28,37 @@ fn say_done(rt: &HostRuntime, sheet: &[u8], count: u32, allowed: bool) {
 // A refusal, or that there is no seed, in words.
 fn say_closing(
     rt: &HostRuntime,
-    sheet: &[u8],
+    names: Names,
     c: Closing,
-    allowed: bool,
     text: &[u8],
     words: &mut [u32],
     bytes: &mut [u8],
 ) {
     match c {
-        Closing::Done { count } => say_done(rt, sheet, count, allowed),
+        Closing::Done { count } => say_done(rt, names, count),
         Closing::NotDone { number, mark, .. } => {
-            let f = Refusal {
-                number: number,
-                mark: mark,
-            };
-            say_refusal(rt, sheet, text, f, words, bytes);
+            let f = Refusal { number, mark };
+            say_refusal(rt, names.sheet, text, f, words, bytes);
         }
     }
 }
 
-// Whether the seeds are kept and, behind them, the record.
-fn keep(
-    rt: &HostRuntime,
-    c: Closing,
-    record: &[u8],
-    seeds: &[u8],
-    begun: Begun,
-    own: &[u8],
-) -> bool {
-    if !finish_output(rt, seeds, record, begun, own) {
-        return false;
-    }
-    save_record(rt, c, record)
-}
-
-// Of a job that closed, and whose seeds are written.
+// Of a job that closed, and whose seeds are written. They are kept, and behind them the record.
 fn close_job(
     rt: &HostRuntime,
+    names: Names,
     c: Closing,
-    sheet: &[u8],
-    record: &[u8],
-    seeds: &[u8],
-    allowed: bool,
     begun: Begun,
-    own: &[u8],
     text: &[u8],
     words: &mut [u32],
     bytes: &mut [u8],
 ) -> u8
-    ensures { Closed c allowed result }
+    ensures { Closed c names.entry.allowed result }
 {
-    let kept = keep(rt, c, record, seeds, begun, own);
-    say_closing(rt, sheet, c, allowed, text, words, bytes);
+    let kept = finish_seeds(rt, names, begun) && save_record(rt, c, names.record);
+    say_closing(rt, names, c, text, words, bytes);
     if kept {
-        return status_of(c, allowed);
+        return status_of(c, names.allowed);
     }
     UNWRITTEN
 }
@@ -96,28 +66,21 @@ fn close_job(
 // Writes its seeds and its record.
 pub(crate) fn run_text(
     rt: &HostRuntime,
-    sheet: &[u8],
-    record: &[u8],
-    seeds: &[u8],
-    allowed: bool,
+    names: Names,
     mut begun: Begun,
-    own: &[u8],
     text: &[u8],
     words: &mut [u32],
     bytes: &mut [u8],
 ) -> u8
-    ensures { Answers text.now (length words.old) (length bytes.old) allowed result }
+    ensures { Answers text.now (length words.old) (length bytes.old) names.entry.allowed result }
 {
-    let h = hand_over(rt, &mut begun.out, text, words, bytes);
-    match h {
-        Handed::Closed(c) => close_job(
-            rt, c, sheet, record, seeds, allowed, begun, own, text, words, bytes,
-        ),
-        Handed::Unwritten => {
-            fail_output(rt, seeds, &begun);
-            drop_output(rt, seeds, begun, own);
+    match hand_over(rt, &mut begun.out, text, words, bytes) {
+        Ok(c) => close_job(rt, names, c, begun, text, words, bytes),
+        Err(Unhanded::Unwritten(e)) => {
+            fail(rt, names.seeds.unwrap_or("standard output"), e);
+            drop_file(rt, begun);
             UNWRITTEN
         }
-        Handed::Lost => UNWRITTEN,
+        Err(Unhanded::Lost) => UNWRITTEN,
     }
 }
