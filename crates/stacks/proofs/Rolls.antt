@@ -3,7 +3,7 @@ use Prim.Native.Nat.{◌+◌, ◌<◌, ◌≤◌, ℕ}
 use Rattle.std.specs.Prelude.{Ok, Err}
 use mathlib.Core.Bool.{Bool, false, true}
 use mathlib.Core.List.{List, ◌∷◌}
-use mathlib.Core.Path.{◌∙◌, ◌≡◌, ap, refl, sym}
+use mathlib.Core.Path.{◌∙◌, ◌≡◌, refl, sym}
 use native.Mathlib.Omega.{arith}
 use lib.Dec.{ltb}
 use lib.ListN.{length, set}
@@ -12,7 +12,7 @@ use borrow.Author.Tests.{le-ltb, lt-ltb}
 use Rattle.yaml_text.specs.declared.Mark.{Mark}
 use Rattle.yaml_text.specs.declared.Refusal.{Refusal}
 use Rattle.yaml_text.specs.Refusal.{Read, ◌>>=◌, got, refused}
-use Rattle.yaml_text.specs.Test.{by_test, true_false}
+use Rattle.yaml_text.specs.Test.{by_test}
 use Rattle.yaml_scan.specs.Indent.{drop_for, indents_of, roll, stack}
 use Rattle.yaml_scan.specs.Indent as definition
 use Rattle.stacks.specs.Stack.{entry_words, stack_words}
@@ -106,13 +106,8 @@ module _ {a : List ℕ} {edge : ℕ} {i d : Indents} (room : ℕ) (m : Mark) (w 
 
 -- a refusal leaves the words as they are
 
-is_got : {A : Type 0} → Read A → Bool
-is_got (got x) = true
-is_got (refused n m) = false
-
 pub refused_got : {A P : Type 0} {x : A} {n : ℕ} {k : Mark} → refused n k ≡ got x → P
-unfolding is_got
-refused_got e = true_false (sym (ap is_got e))
+refused_got e = let z : ◌≡◌ {A = ℕ} 0 1 = cc e in absurd (omega arith)
 
 abbrev begun : definition.Indents → definition.Rolled
 begun i = record { starts = true; indents = i }

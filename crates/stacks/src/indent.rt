@@ -10,7 +10,8 @@ use crate::STACK_WORDS;
 use chars::refuse::refuse;
 use yaml_text::{Mark, Refusal};
 
-// The indent, and how many entries are stacked.
+// The indent, and how many entries are stacked. The bounds on both (`Low`) stand in the contracts: that of the depth is the
+// limit that the caller gave, which no type can name.
 #[derive(Clone, Copy)]
 pub struct Indents {
     pub indent: u32,

@@ -22,7 +22,8 @@ use yaml_text::{Mark, Refusal};
 
 #[derive(Clone, Copy)]
 pub struct State {
-    // Index + 1 directly after a quoted scalar's or closing bracket's span; 0: none.
+    // Index + 1 directly after a quoted scalar's or closing bracket's span; 0: none. A number, as in the definition's state,
+    // which this one is compared with field by field.
     pub adjacent_value_allowed_at: u32,
     pub indents: Indents,
     pub place: Place,
