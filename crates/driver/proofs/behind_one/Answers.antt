@@ -8,7 +8,7 @@ use Rattle.driver.proofs.behind_one.Goals as goal
 pub returns-then-room-k : goal.returns-then-room-k
 returns-then-room-k c =
     let a = c.args in
-    c.no_room.ensures a.w ∙ one_full a.room a.base a.w a.level a.stacks.now a.t.flow_level a.t.place.mark a.k c.if-room-k.true
+    rw (c.refuse.ensures, c.origin.ensures) (one_full a.room a.base a.w a.level a.stacks.now a.t.flow_level a.t.place.mark a.k c.if-room-k.true)
 
 pub returns-then-is_named : goal.returns-then-is_named
 returns-then-is_named c =
@@ -19,11 +19,11 @@ returns-then-is_named c =
 pub if_enough-requires : goal.if_enough-requires
 if_enough-requires c =
     let a = c.args in
-    then_least a.level (frame_keys a.stacks.now (suc a.t.flow_level)) a.t.flow_level a.k c.requires.3 c.then_pending.ensures
+    then_least a.level (frame_keys a.stacks.now (suc a.t.flow_level)) a.t.flow_level a.k c.requires.2 c.then_pending.ensures
 
 pub returns : goal.returns
 returns c =
     let a = c.args in
-    c.if_enough.ensures a.w
+    c.if_enough.ensures
     ∙ one_others a.room a.base a.w a.level a.stacks.now a.t.flow_level a.t.place.mark a.k c.if-room-k.false (sym c.if-is_named.false ∙ c.is_named.ensures)
     c.then_pending.ensures

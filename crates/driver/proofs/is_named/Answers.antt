@@ -8,12 +8,12 @@ use Rattle.driver.proofs.is_named.Goals as goal
 pub returns-then-flow-level : goal.returns-then-flow-level
 returns-then-flow-level c = let a = c.args in not_named a.number (key_closed a.stacks.now a.level (suc a.flow) c.if-flow-level.true)
 
-pub returns-in_default : goal.returns-in_default
-returns-in_default c =
+pub returns-in-Possible : goal.returns-in-Possible
+returns-in-Possible c =
     let a = c.args in
-    not_named a.number (key_open a.stacks.now a.level (suc a.flow) (omega (arith, c.if-flow-level.false)) ∙ sym c.key-k.ensures ∙ c.in_default.is)
+    named a.number (key_open a.stacks.now a.level (suc a.flow) (omega (arith, c.if-flow-level.false)) ∙ sym c.key.ensures ∙ c.in-Possible.is)
 
-pub returns : goal.returns
-returns c =
+pub returns-in-Absent : goal.returns-in-Absent
+returns-in-Absent c =
     let a = c.args in
-    named a.number (key_open a.stacks.now a.level (suc a.flow) (omega (arith, c.if-flow-level.false)) ∙ sym c.key-k.ensures ∙ c.in-Possible.is)
+    not_named a.number (key_open a.stacks.now a.level (suc a.flow) (omega (arith, c.if-flow-level.false)) ∙ sym c.key.ensures ∙ c.in-Absent.is)
