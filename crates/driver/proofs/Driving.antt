@@ -27,6 +27,7 @@ use Rattle.rooms.specs.Room.{cleared}
 use Rattle.events.specs.declared.Counts.{Counts}
 use Rattle.events.specs.Event.{laid_events}
 use Rattle.stacks.specs.Frame.{levels_length}
+use Rattle.stacks.specs.Stack.{stack_words}
 use Rattle.states.specs.declared.State.{State}
 use Rattle.states.specs.Refused.{has_text}
 use Rattle.states.specs.State.{state_of}
@@ -45,9 +46,9 @@ pub nothing_stored : (base : ℕ) (l : List ℕ) (slot used : ℕ) {d : Read New
 unfolding events_of store_laid laid_events
 nothing_stored base l slot used i = rw i
 
-pub refused_done : {limits : Limits} {text e : List ℕ} {d : Read News} {base : ℕ} {n : Counts} (l : List ℕ) {b z b' : List ℕ} {f : Refusal} → StepRefused d z b' f
+pub refused_done : {limits : Limits} {text e : List ℕ} {d : Read News} {base : ℕ} {n : Counts} (l : List ℕ) {b z b' : List ℕ} {f : Refusal} → length e ≡ stack_words → StepRefused d z b' f
     → StepDone limits text e d base n l b z l b' (Err f)
-refused_done {base = base} {n = n} l h = record { answers = h; words = nothing_stored base l (n.count - base) n.used h.same }
+refused_done {base = base} {n = n} l long h = record { answers = h; kept = long; words = nothing_stored base l (n.count - base) n.used h.same }
 
 -- and of the lent bytes those used before stay then
 

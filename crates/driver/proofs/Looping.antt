@@ -2,7 +2,7 @@
 use Prim.Native.Nat.{◌+◌, ◌<◌, ◌^◌, ◌≤◌, suc, ℕ}
 use mathlib.Core.Bool.{Bool}
 use mathlib.Core.List.{List, [], ◌++◌}
-use mathlib.Core.Path.{◌∙◌, ◌≡◌, ap, refl}
+use mathlib.Core.Path.{◌∙◌, ◌≡◌, ap, refl, sym}
 use Rattle.std.specs.Prelude.{Ok, Err}
 use native.Mathlib.Omega.{arith}
 use lib.ListN.{drop, length}
@@ -101,29 +101,22 @@ module _ {limits : Limits} {one : Bool} {text h₀ l₀ b₀ : List ℕ} {base :
   looping_less e q = rw e (driving_less limits text (test_at one (length b₀) base) i.low i.driving q)
 
 module _ {limits : Limits} {one : Bool} {text h₀ l₀ b₀ : List ℕ} {base : ℕ} {s₀ : State} {n₀ : Counts} {w₀ : Pending} {h l b : List ℕ} {t : State} {n : Counts} {w : Pending}
-    (i : Looping limits one text h₀ l₀ b₀ base s₀ n₀ w₀ h l b t n w) (e : List ℕ) (same : length e ≡ length (stacks_held h)) where
+    (i : Looping limits one text h₀ l₀ b₀ base s₀ n₀ w₀ h l b t n w) (e : List ℕ) where
   -- the stacks came back as e
   abbrev after : List ℕ
   after = e ++ drop stack_words h
 
-  front_long : length e ≡ stack_words
-  front_long = same ∙ length-take-le stack_words h (omega (arith, i.long))
+  after_length : length e ≡ stack_words → length after ≡ length h
+  after_length long = length_front h e stack_words (long ∙ sym (length-take-le stack_words h (omega (arith, i.long))))
 
-  after_length : length after ≡ length h
-  after_length = length_front h e stack_words same
-
-  pub kept_on : {l' b' : List ℕ} → length l' ≡ length l → length b' ≡ length b → LengthsKept h₀ l₀ b₀ after l' b'
-  kept_on p q =
+  kept_on : {l' b' : List ℕ} → length e ≡ stack_words → length l' ≡ length l → length b' ≡ length b → LengthsKept h₀ l₀ b₀ after l' b'
+  kept_on long p q =
       record {
-        behind_kept = drop_at e (drop stack_words h) stack_words front_long ∙ i.kept.behind_kept;
-        held_kept = after_length ∙ i.kept.held_kept;
+        behind_kept = drop_at e (drop stack_words h) stack_words long ∙ i.kept.behind_kept;
+        held_kept = after_length long ∙ i.kept.held_kept;
         words_kept = p ∙ i.kept.words_kept;
         bytes_kept = q ∙ i.kept.bytes_kept;
       }
-
-  -- what holding up to where tokens can be given asks for
-  pub looping_holds : base ≤ w.number
-  looping_holds = i.fits.least
 
   module _ {l' b' : List ℕ} (p : length l' ≡ length l) (q : length b' ≡ length b) where
     pub looping_asks : {z : List ℕ} {u v : State} {m : Counts} → v ≡ u → StepDone limits text e (step limits (state_of text (stacks_held h) n.count t)) base n l b z l' b' (Ok (On u m))
@@ -132,23 +125,23 @@ module _ {limits : Limits} {one : Bool} {text h₀ l₀ b₀ : List ℕ} {base :
         let r = i.driving.given.ready in
         rw anew
         (record {
-          kept = kept_on p q;
-          long = after_length ∙ i.long;
+          kept = kept_on d.kept p q;
+          long = after_length d.kept ∙ i.long;
           loaded = i.loaded;
           low = i.low;
           fits = fits_more i.fits d.answers.counts;
           level_low = omega (arith, r.deep, r.lent);
-          halting = rw (take_at e (drop stack_words h) stack_words front_long) (driving_on limits text (test_at one (length b₀) base) i.low i.driving d);
+          halting = rw (take_at e (drop stack_words h) stack_words d.kept) (driving_on limits text (test_at one (length b₀) base) i.low i.driving d);
         })
 
     pub looping_ends : {z : List ℕ} {m : Counts} → StepDone limits text e (step limits (state_of text (stacks_held h) n.count t)) base n l b z l' b' (Ok (Ends m))
         → Drives limits one text h₀ l₀ b₀ after l' b' (Ok (Scanned m))
-    looping_ends d = drives_scanned one h₀ l₀ b₀ after l' b' i.loaded (kept_on p q) (driving_ends i.low i.driving d)
+    looping_ends d = drives_scanned one h₀ l₀ b₀ after l' b' i.loaded (kept_on d.kept p q) (driving_ends i.low i.driving d)
 
     pub looping_stops : {h' : List ℕ} {f : Refusal} → h' ≡ put_until after base w
         → StepDone limits text e (step limits (state_of text (stacks_held h) n.count t)) base n l b (step_left (state_of text (stacks_held h) n.count t) b n.used) l' b' (Err f)
         → Drives limits one text h₀ l₀ b₀ h' l' b' (Err f)
-    looping_stops {h'} held d = drives_stopped one h₀ l₀ b₀ h' l' b' i.loaded (driving_stops i.low i.driving (kept_on p q) held d)
+    looping_stops {h'} held d = drives_stopped one h₀ l₀ b₀ h' l' b' i.loaded (driving_stops i.low i.driving (kept_on d.kept p q) held d)
 
 module _ {limits : Limits} {one : Bool} {text h₀ l₀ b₀ : List ℕ} {base : ℕ} {s₀ : State} {n₀ : Counts} {w₀ : Pending} {level : ℕ} {h l b : List ℕ} {t : State} {n : Counts} {w : Pending}
     (a : Asking limits one text h₀ l₀ b₀ base s₀ n₀ w₀ level h l b t n w) where
@@ -166,16 +159,10 @@ module _ {limits : Limits} {one : Bool} {text h₀ l₀ b₀ : List ℕ} {base :
       (halting_fits a.low a.halting).2)
 
   -- what the test asks for
-  pub asking_room : stack_words ≤ length h
-  asking_room = omega (arith, a.long)
-
   pub asking_asks : (w.level ≤ 255) × (level ≤ 255) × (base < n.count) × (w.number ≤ n.count) × (w.put_in ≤ n.put_in) × (n.count + n.put_in < 2 ^ 32)
   asking_asks = halting_asks a.low a.halting a.fits a.level_low
 
   -- and holding where it ends
-  pub asking_until : base ≤ w.number
-  asking_until = a.fits.least
-
   pub asking_holds : {v : Pending} → pause v ≡ says
       → (t.place.at < 2 ^ 32) × (t.indents.depth < 2 ^ 32) × (t.flow_level < 2 ^ 32) × (v.level < 2 ^ 32) × (base ≤ v.number)
   asking_holds q =

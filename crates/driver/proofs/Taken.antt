@@ -1,7 +1,7 @@
 -- One token: what its fetcher ensures makes the step's answer, and what was stored behind it is what the definition says.
 use Prim.Native.Nat.{◌+◌, ◌-◌, ◌≤◌, ℕ}
 use mathlib.Core.List.{List}
-use mathlib.Core.Path.{◌∙◌, ◌≡◌, ap, refl}
+use mathlib.Core.Path.{◌∙◌, ◌≡◌, ap, refl, sym}
 use Rattle.std.specs.Prelude.{Result, Ok, Err}
 use native.Mathlib.Omega.{arith}
 use lib.ListN.{length}
@@ -10,6 +10,7 @@ use Rattle.yaml_scan.specs.declared.Choice.{Choice}
 use Rattle.yaml_scan.specs.declared.Limits.{Limits}
 use Rattle.yaml_scan.specs.Choice.{choice}
 use Rattle.choices.specs.Choice.{AsDefined}
+use Rattle.stacks.specs.Stack.{stack_words}
 use Rattle.events.specs.declared.Counts.{Counts}
 use Rattle.events.specs.declared.Event.{Event}
 use Rattle.events.specs.Event.{Countable, counted_of}
@@ -47,23 +48,23 @@ module _ {limits : Limits} {text a : List ℕ} {s : State} {n : Counts} (h : Ste
   left_here b = token_left (state_of text a (n.count + ended) s) b n.used
 
   module _ (c : Choice) {e b b' : List ℕ} where
-    pub taken_refused : {base : ℕ} {f : Refusal} (l : List ℕ) → AsDefined text s (λ t. choice t) c → Steps limits text a e b b' k s c (Err f)
+    pub taken_refused : {base : ℕ} {f : Refusal} (l : List ℕ) → length e ≡ stack_words → AsDefined text s (λ t. choice t) c → Steps limits text a e b b' k s c (Err f)
         → StepDone limits text e (token_news limits text a s ended n) base n l b (left_here b) l b' (Err f)
-    taken_refused l y g =
+    taken_refused l long y g =
         let r = token_refused h ended few (rw behind at g) in
-        refused_done l (record { same = r.same; bytes = r.bytes ∙ ap (λ (d : Choice). choice_bytes d b n.used) (y a (n.count + ended)) })
+        refused_done l long (record { same = r.same; bytes = r.bytes ∙ ap (λ (d : Choice). choice_bytes d b n.used) (y a (n.count + ended)) })
 
     pub taken_countable : {r : Result Fetched Refusal} {v : Event} → Steps limits text a e b b' k s c r → FetchedEvent r v → Countable k v
     taken_countable g f = rw behind (token_countable h ended few (rw behind at g) f)
 
     module _ {base : ℕ} {r : Result Fetched Refusal} {v : Event} {m : Counts} (l : List ℕ) {l' : List ℕ} (g : Steps limits text a e b b' k s c r)
-        (stored : l' ≡ put_news l (n.count - base) s.place.mark ended (shifted base v)) (told : m ≡ counted_of k v) where
-      pub taken_goes : {t : State} → r ≡ Ok (Goes v t) → length e ≡ length a → StepDone limits text e (token_news limits text a s ended n) base n l b (left_here b) l' b' (Ok (stepped.On t m))
-      taken_goes q kept =
+        (long : length e ≡ stack_words) (stored : l' ≡ put_news l (n.count - base) s.place.mark ended (shifted base v)) (told : m ≡ counted_of k v) where
+      pub taken_goes : {t : State} → r ≡ Ok (Goes v t) → length a ≡ stack_words → StepDone limits text e (token_news limits text a s ended n) base n l b (left_here b) l' b' (Ok (stepped.On t m))
+      taken_goes q was =
           let f = rw behind at g in
-          record { answers = token_goes h ended few f q kept (rw behind at told); words = token_words h ended few base l f (fetched_as q refl going) stored }
+          record { answers = token_goes h ended few f q (long ∙ sym was) (rw behind at told); kept = long; words = token_words h ended few base l f (fetched_as q refl going) stored }
 
       pub taken_ends : r ≡ Ok (Ends v) → StepDone limits text e (token_news limits text a s ended n) base n l b (left_here b) l' b' (Ok (stepped.Ends m))
       taken_ends q =
           let f = rw behind at g in
-          record { answers = token_ends h ended few f q (rw behind at told); words = token_words h ended few base l f (fetched_as q refl at_end) stored }
+          record { answers = token_ends h ended few f q (rw behind at told); kept = long; words = token_words h ended few base l f (fetched_as q refl at_end) stored }

@@ -1,11 +1,12 @@
 -- One step as the loop makes it: its answer, and what is stored of it. base: the number of the token in slot 0.
-use Rattle.std.specs.Prelude.{◌+◌, ◌-◌, ℕ, List, map, ◌≡◌, Result, Ok, Err}
+use Rattle.std.specs.Prelude.{◌+◌, ◌-◌, ℕ, List, map, ◌≡◌, length, Result, Ok, Err}
 use Rattle.yaml_text.specs.declared.Refusal.{Refusal}
 use Rattle.yaml_text.specs.Refusal.{Read}
 use Rattle.yaml_scan.specs.declared.Limits.{Limits}
 use Rattle.yaml_scan.specs.Fetch.{fetch_next}
 use Rattle.yaml_scan.specs.State.{News}
 use Rattle.yaml_stream.specs.Stream.{counted_from}
+use Rattle.stacks.specs.Stack.{stack_words}
 use Rattle.events.specs.declared.Counts.{Counts}
 use Rattle.sink.specs.EventsStored.{store_events}
 use Rattle.states.specs.declared.State.{State}
@@ -23,6 +24,7 @@ StepAnswers limits text e d n b z b' (Err f) = StepRefused d z b' f
 -- and what it stores, in the words from l to l': the events that it says, none at a refusal
 pub record StepDone (limits : Limits) (text e : List ℕ) (d : Read News) (base : ℕ) (n : Counts) (l b z l' b' : List ℕ) (r : Result Stepped Refusal) : Type 0 where
   pub answers : StepAnswers limits text e d n b z b' r
+  pub kept : length e ≡ stack_words
   pub words : l' ≡ store_events l (n.count - base) n.used (map (counted_from base) (events_of d))
 
 -- what the definition says of one token from s, behind so many ends of blocks there, with the stacks a

@@ -14,7 +14,7 @@ pub returns-in_err-a : goal.returns-in_err-a
 returns-in_err-a c =
     let a = c.args in
     let p = err_from_is_err_and c.from_residual.result c.from_residual.ensures.1 in
-    rw (p.1, p.2) (refused_done a.words.now (step_stops a.limits a.n a.bytes.now c.in_err-a.ensures))
+    rw (p.1, p.2) (refused_done a.words.now c.to_next_token.array_long (step_stops a.limits a.n a.bytes.now c.in_err-a.ensures))
 
 pub returns : goal.returns
 returns c =
