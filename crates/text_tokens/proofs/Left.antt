@@ -1,10 +1,5 @@
 -- A directive leaves all blocks: what the definition does with what it read, behind the ends of blocks that stand at its own start.
-use Prim.Native.Nat.{ℕ}
-use mathlib.Core.Bool.{false, true}
-use mathlib.Core.List.{List, [], ◌++◌, ◌∷◌}
-use mathlib.Core.Path.{◌∙◌, ◌≡◌, refl}
-use native.Mathlib.Omega.{arith}
-use lib.ListN.{length}
+use Rattle.std.proofs.Common.{◌∙◌, ◌≡◌, [], ◌++◌, ◌∷◌, ℕ, List, Err, Ok, arith, false, length, refl, true}
 use Rattle.yaml_text.specs.declared.Mark.{Mark}
 use Rattle.yaml_text.specs.declared.Refusal.{Refusal}
 use Rattle.yaml_text.specs.All.{All, holds, not_read}
@@ -20,32 +15,19 @@ use Rattle.yaml_scan.specs.State.{News, allow, at_place, block_ends, emit, put, 
 use Rattle.yaml_scan.specs.State as definition
 use Rattle.rooms.specs.Room.{cleared}
 use Rattle.reading.specs.declared.Lexeme.{Lexeme}
-use Rattle.reading.specs.declared.Reading.{Reading}
-use Rattle.reading.specs.declared.Reading.TheVariants.{Got, Refused}
 use Rattle.reading.specs.Reading.{Lexes}
 use Rattle.stacks.specs.declared.indent.Unrolled.{Unrolled}
 use Rattle.stacks.proofs.Entries.{low_below}
 use Rattle.events.specs.declared.Counts.{Counts}
-use Rattle.states.specs.declared.Fetched.{Fetched}
-use Rattle.states.specs.declared.Fetched.TheVariants as fetched
 use Rattle.states.specs.declared.State.{State}
 use Rattle.states.specs.Fetch.{FetchesText, Ready}
 use Rattle.states.specs.Key.{removed_words}
-use Rattle.states.specs.Lexed.{Way, back, clipped, lexed_got, lexed_refused, part}
+use Rattle.states.specs.Lexed.{Way, lexed_got, lexed_refused}
 use Rattle.states.specs.Rest.{is_rest, rest_at, rest_view}
 use Rattle.states.specs.State.{behind_of, state_of}
 use Rattle.documents.specs.Leave.{LeavesBlocks, goes_outside}
-use Rattle.text_tokens.specs.Lexeme.{LeftRead}
+use Rattle.text_tokens.specs.Lexeme.{unused, with_unused}
 use Rattle.text_tokens.proofs.Read.{from_here, same_for_all}
-
--- the words and the answer, by what was read
-
-module _ {a e : List ℕ} (s : State) {r : Reading} where
-  pub left_got : {l : Lexeme} {v : Fetched} (u : Unrolled) → r ≡ Got l → LeavesBlocks a e s u → v ≡ goes_outside s u (behind_of s.place l.next) true false l.token → LeftRead a e s r v
-  left_got u q h i = rw q (record { unrolled = u; leaves = h; same = i })
-
-  pub left_refused : {f : Refusal} → r ≡ Refused f → e ≡ a → LeftRead a e s r (fetched.Refused f)
-  left_refused q h = rw q (h, refl)
 
 -- what the definition does with what it read, the blocks' ends being at the mark m
 abbrev outside : definition.State → Mark → tokens.Lexeme → Read News
@@ -67,19 +49,19 @@ started k not_read = refl
 abbrev out : State → Unrolled → Way
 out s u = record { indents = u.indents; leading_whitespace = true; simple_key_allowed = false; adjacent_value_allowed_at = λ m. s.adjacent_value_allowed_at; ended = u.ended }
 
-pub left : {limits : Limits} {text a e lent : List ℕ} (before : List ℕ) {from : ℕ} {n : Counts} {s : State} {v : Fetched}
-    → from ≡ clipped n.used (length before) → Ready limits text a s → (r : Reading)
-    → Lexes (rest_at text s.place) (part from before) lent n.used r (scan_directive (from_here text s)) → LeftRead a e s r v
-    → FetchesText limits text a e (removed_words a s) before (cleared before n.used) (back from before lent) n s (fetch_directive (state_of text a n.count s)) v
-left {text = text} {a = a} before {n = n} {s = s} at y (Refused f) h q =
-    rw q.1
-    (lexed_refused before at (scan_directive (from_here text s)) (λ (l : tokens.Lexeme). outside (state_of text a n.count s) s.place.mark l) h (directive_tells text a n.count s) q.0)
-left {text = text} {a = a} before {n = n} {s = s} at y (Got l) h q =
-    let x = scan_directive (from_here text s) in
-    let k = q.leaves in
-    rw q.same
-    (lexed_got before at (out s q.unrolled) x y (is_rest text s.place) (record { low = low_below y.low k.below; few = omega (arith, k.few) }) h
-    (directive_tells text a n.count s
-    ∙ started (λ m g. outside (state_of text a n.count s) m g) (directive_fit (from_here text s))
-    ∙ same_for_all x (λ g. rw (← k.same text n.count, ← k.ended)))
-    k.words)
+module _ {limits : Limits} {text a lent : List ℕ} (before : List ℕ) {n : Counts} {s : State} where
+  -- a refusal leaves none
+  pub left_refused : {f : Refusal} → Lexes (rest_at text s.place) (unused n.used before) lent n.used (Err f) (scan_directive (from_here text s))
+      → FetchesText limits text a a (removed_words a s) before (cleared before n.used) (with_unused n.used before lent) n s (fetch_directive (state_of text a n.count s)) (Err f)
+  left_refused h =
+      lexed_refused before refl (scan_directive (from_here text s)) (λ (l : tokens.Lexeme). outside (state_of text a n.count s) s.place.mark l) h (directive_tells text a n.count s) refl
+
+  pub left : {e : List ℕ} {l : Lexeme} {u : Unrolled} → Ready limits text a s → Lexes (rest_at text s.place) (unused n.used before) lent n.used (Ok l) (scan_directive (from_here text s)) → LeavesBlocks a e s u
+      → FetchesText limits text a e (removed_words a s) before (cleared before n.used) (with_unused n.used before lent) n s (fetch_directive (state_of text a n.count s))
+      (Ok (goes_outside s u (behind_of s.place l.next) true false l.token))
+  left {u = u} y h k =
+      lexed_got before refl (out s u) (scan_directive (from_here text s)) y (is_rest text s.place) (record { low = low_below y.low k.below; few = omega (arith, k.few) }) h
+      (directive_tells text a n.count s
+      ∙ started (λ m g. outside (state_of text a n.count s) m g) (directive_fit (from_here text s))
+      ∙ same_for_all (scan_directive (from_here text s)) (λ g. rw (← k.same text n.count, ← k.ended)))
+      k.words

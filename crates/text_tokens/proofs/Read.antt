@@ -1,11 +1,5 @@
--- What a reader and the function behind it ask for, and the answer by what was read: a place in the rest of a text is one of the text.
-use Prim.Native.Nat.{◌+◌, ◌<◌, ◌^◌, ◌≤◌, ℕ}
-use mathlib.Core.Bool.{false}
-use mathlib.Core.List.{List}
-use mathlib.Core.Path.{◌≡◌, refl}
-use native.Mathlib.Omega.{arith}
-use lib.ListN.{drop, get_or, length}
-use lib.Seq.{get_or-drop}
+-- What a reader asks for and answers of the rest of a text, held against the definition's reader at the same place.
+use Rattle.std.proofs.Common.{◌+◌, ◌<◌, ◌^◌, ◌≤◌, ◌≡◌, ℕ, List, Ok, Result, arith, false, drop, get_or, get_or-drop, length, refl}
 use Rattle.yaml_text.specs.declared.Refusal.{Refusal}
 use Rattle.yaml_text.specs.Class.{is_z, peek}
 use Rattle.yaml_text.specs.Mark as mark
@@ -17,21 +11,13 @@ use Rattle.yaml_scan.specs.State.{News}
 use Rattle.chars.specs.declared.mark.Place.{Place}
 use Rattle.chars.specs.View.{Stands, view}
 use Rattle.reading.specs.declared.Lexeme.{Lexeme}
-use Rattle.reading.specs.declared.Reading.{Reading}
-use Rattle.reading.specs.declared.Reading.TheVariants.{Got, Refused}
-use Rattle.reading.specs.Reading.{ReadsAhead, ReaderGiven, Indicated, first_at}
+use Rattle.reading.specs.Reading.{Behind, Indicated, Lexes, ReaderGiven, first_at}
 use Rattle.stacks.specs.declared.indent.Indents.{Indents}
-use Rattle.stacks.specs.Stack.{entry_words, stack_words}
 use Rattle.stacks.specs.Indent.{Low}
-use Rattle.events.specs.Event.{closing_of}
-use Rattle.states.specs.declared.Fetched.TheVariants as fetched
 use Rattle.states.specs.declared.State.{State}
-use Rattle.states.specs.Answer.{ready_saves}
 use Rattle.states.specs.Fetch.{OneByte, Ready}
-use Rattle.states.specs.Key.{Saves}
 use Rattle.states.specs.Rest.{behind_fits, is_rest, rest_at, rest_given, rest_indicated}
-use Rattle.states.specs.State.{behind_of}
-use Rattle.text_tokens.specs.Lexeme.{PlaceFits, SavesRead, fetched_of}
+use Rattle.text_tokens.specs.Lexeme.{Reader, ReadsLent, unused}
 
 -- what a reader asks for
 
@@ -53,37 +39,13 @@ first_byte text p = let z : p.at + 0 ≡ p.at = omega arith in rw (is_rest text 
 pub low_indent : {limits : Limits} {text a : List ℕ} {s : State} {i : Indents} → Ready limits text a s → Low limits.entries i → i.indent < 2 ^ 21
 low_indent y h = omega (arith, y.lent)
 
--- what the function behind the reader asks for
-module _ {limits : Limits} {text a : List ℕ} {s : State} (y : Ready limits text a s) (n : length text < 2 ^ 63) where
-  pub reading_fits : (r : Reading) → ReadsAhead (rest_at text s.place) r → PlaceFits s.place r
-  reading_fits (Got l) h = (behind_fits text s.place (is_rest text s.place) y.stands h.stands n, omega (arith, h.stands))
-  reading_fits (Refused f) h = tt
+-- the place behind what was read wraps nowhere
+module _ {limits : Limits} {text a : List ℕ} {s : State} {l : Lexeme} (y : Ready limits text a s) (h : Behind (rest_at text s.place) l) where
+  pub read_fits : length text < 2 ^ 63 → s.place.at + l.next.at < 2 ^ 63
+  read_fits n = behind_fits text s.place (is_rest text s.place) y.stands h.stands n
 
-  pub saving : (r : Reading) → ReadsAhead (rest_at text s.place) r
-      → PlaceFits s.place r × (s.flow_level ≤ 255) × (s.indents.depth ≤ entry_words) × (stack_words ≤ length a) × (s.place.mark.col ≤ 1_048_576)
-  saving r h = let k = ready_saves y in (reading_fits r h, k.0, k.1, k.2, k.3)
-
--- the answer, by what was read
-
-pub fits_got : (p : Place) {r : Reading} {l : Lexeme} → r ≡ Got l → PlaceFits p r → PlaceFits p (Got l)
-fits_got p e h = rw e at h
-
-module _ (t : Place → State) (n : ℕ) (p : Place) {r : Reading} where
-  pub fetched_got : {l : Lexeme} → r ≡ Got l → fetched.Goes (closing_of n l.token) (t (behind_of p l.next)) ≡ fetched_of t n p r
-  unfolding fetched_of
-  fetched_got e = rw e
-
-  pub fetched_refused : {f : Refusal} → r ≡ Refused f → fetched.Refused f ≡ fetched_of t n p r
-  unfolding fetched_of
-  fetched_refused e = rw e
-
--- the lent words, by what was read
-module _ {a e : List ℕ} (count : ℕ) (s : State) {r : Reading} where
-  pub saves_got : {l : Lexeme} → r ≡ Got l → Saves a e count s → SavesRead a e count s r
-  saves_got q h = rw q h
-
-  pub saves_refused : {f : Refusal} → r ≡ Refused f → e ≡ a → SavesRead a e count s r
-  saves_refused q h = rw q h
+  pub read_index : length text < 2 ^ 63 → l.next.mark.index < 2 ^ 31
+  read_index n = omega (arith, h.stands)
 
 -- the definition's reader, at the same place, and what it does with what it read
 
@@ -94,3 +56,10 @@ pub same_for_all : (x : Read tokens.Lexeme) {f g : tokens.Lexeme → Read News} 
 unfolding ◌>>=◌
 same_for_all (got l) h = h l
 same_for_all (refused n m) h = refl
+
+-- what the reader f answered, where it was lent the rest of the text and the unused end of the bytes
+module _ {F R : Type 0} {g : Reader F R} {f : F} (text : List ℕ) {before after : List ℕ} (s : State) {used : ℕ} {r : R} (k : ReadsLent g f (rest_at text s.place) before after used r) where
+  pub read_here : (o : Result Lexeme Refusal) (d : mark.Place → Read tokens.Lexeme)
+      → Lexes k.shown.now k.lent.now k.left.now used o (d (view k.shown.now (first_at s.place.mark)))
+      → Lexes (rest_at text s.place) (unused used before) k.left.now used o (d (from_here text s))
+  read_here o d h = rw (k.shows, k.lends) at h

@@ -1,12 +1,7 @@
 -- Each lexeme that saves a candidate: what the definition does with what it read, and one law that makes of it the fetcher's answer.
-use Prim.Native.Nat.{ℕ}
-use mathlib.Core.Bool.{Bool, false, true}
-use mathlib.Core.List.{List, [], ◌∷◌}
-use mathlib.Core.Path.{◌∙◌, ◌≡◌, refl}
-use native.Mathlib.Omega.{arith}
-use lib.Dec.{ltb}
-use lib.ListN.{length}
+use Rattle.std.proofs.Common.{◌∙◌, ◌≡◌, [], ◌∷◌, ℕ, Bool, List, Err, Ok, arith, false, length, ltb, refl, true}
 use Rattle.yaml_text.specs.declared.Mark.{Mark}
+use Rattle.yaml_text.specs.declared.Refusal.{Refusal}
 use Rattle.yaml_text.specs.Refusal.{Read, ◌>>=◌, got}
 use Rattle.yaml_lexeme.specs.Anchor.{scan_anchor}
 use Rattle.yaml_lexeme.specs.Block.{scan_block_scalar}
@@ -19,21 +14,22 @@ use Rattle.yaml_scan.specs.Fetch.{fetch_anchor, fetch_block_scalar, fetch_flow_s
 use Rattle.yaml_scan.specs.Indent.{drop_non_ending}
 use Rattle.yaml_scan.specs.State.{News, adjacent_here, allow, at_place, emit, put, save_key, with_indents}
 use Rattle.yaml_scan.specs.State as definition
-use Rattle.reading.specs.declared.Reading.{Reading}
-use Rattle.reading.specs.declared.Reading.TheVariants.{Got, Refused}
-use Rattle.reading.specs.Reading.{Lexes, laid_read, seen}
+use Rattle.reading.specs.declared.Lexeme.{Lexeme}
+use Rattle.reading.specs.Reading.{Lexes}
 use Rattle.stacks.specs.declared.indent.Indents.{Indents}
 use Rattle.stacks.specs.Indent.{Low, Lowers, entries_of, indents_seen}
 use Rattle.events.specs.declared.Counts.{Counts}
+use Rattle.events.specs.Event.{closing_of}
+use Rattle.states.specs.declared.Fetched.TheVariants.{Goes}
 use Rattle.states.specs.declared.State.{State}
 use Rattle.states.specs.Fetch.{Ready}
 use Rattle.states.specs.Key.{Saves}
-use Rattle.states.specs.Lexed.{Way, back, clipped, goes_to, lexed_got, lexed_refused, part, state_to}
+use Rattle.states.specs.Lexed.{Way, goes_to, lexed_got, lexed_refused, state_to}
 use Rattle.states.specs.Rest.{is_rest, rest_at, rest_view}
 use Rattle.states.specs.Seen.{entries_seen, in_flow_seen}
-use Rattle.states.specs.State.{s_moved, state_of}
+use Rattle.states.specs.State.{behind_of, state_of}
+use Rattle.text_tokens.specs.Lexeme.{FetchesSaved, unused, with_unused}
 use Rattle.text_tokens.proofs.Read.{from_here, same_for_all}
-use Rattle.text_tokens.specs.Lexeme.{FetchesSaved, SavesRead, fetched_of}
 
 -- on behind a token that ends no block
 abbrev pub on : Indents → Bool → Bool → (Mark → ℕ) → Way
@@ -52,35 +48,24 @@ abbrev pub in_block : List ℕ → Indents → tokens.Lexeme → definition.Stat
 in_block a i l v = going true l (with_indents (indents_seen a i) v)
 
 -- THE LAW
-module _ {limits : Limits} {text a e lent : List ℕ} (before : List ℕ) {from : ℕ} {n : Counts} {s : State} (f : definition.State → Read News)
-    (go : tokens.Lexeme → definition.State → definition.State) (i : Indents) (leads allowed : Bool) (adjacent : Mark → ℕ)
-    (at : from ≡ clipped n.used (length before)) (y : Ready limits text a s) (low : Low limits.entries i)
-    (goes : Saves a e n.count s → (l : tokens.Lexeme) → go l (state_of text e n.count s) ≡ state_to e n.count s (on i leads allowed adjacent) l.place) where
-  pub saved : (r : Reading) {x : Read tokens.Lexeme} → Lexes (rest_at text s.place) (part from before) lent n.used r x
-      → Tells f x go (state_of text a n.count s) → SavesRead a e n.count s r
-      → FetchesSaved limits text a e before (back from before lent) n s f (fetched_of (goes_to s (on i leads allowed adjacent)) 0 s.place r)
-  unfolding fetched_of
-  saved (Refused g) {x} h tells q = lexed_refused before at x (λ (l : tokens.Lexeme). emit (put l.token ∷ []) (go l (save_key (state_of text a n.count s)))) h tells q
-  saved (Got l) {x} h tells q =
-      lexed_got before at (on i leads allowed adjacent) x y (is_rest text s.place)
-      (record { low = low; few = omega arith })
-      h
-      (tells ∙ same_for_all x (λ m. rw (← q.same text, goes q m)))
-      q.words
+module _ {limits : Limits} {text a lent : List ℕ} (before : List ℕ) {n : Counts} {s : State} (f : definition.State → Read News)
+    (go : tokens.Lexeme → definition.State → definition.State) {x : Read tokens.Lexeme} (tells : Tells f x go (state_of text a n.count s)) where
+  -- a refusal saves nothing
+  pub saved_refused : {g : Refusal} → Lexes (rest_at text s.place) (unused n.used before) lent n.used (Err g) x
+      → FetchesSaved limits text a a before (with_unused n.used before lent) n s f (Err g)
+  saved_refused h = lexed_refused before refl x (λ (l : tokens.Lexeme). emit (put l.token ∷ []) (go l (save_key (state_of text a n.count s)))) h tells refl
 
--- where the indents stay, and the next candidate is forbidden
-pub saved_here : {limits : Limits} {text a e lent : List ℕ} (before : List ℕ) {from : ℕ} {n : Counts} {s : State} (f : definition.State → Read News)
-    → from ≡ clipped n.used (length before) → Ready limits text a s → (r : Reading) {x : Read tokens.Lexeme}
-    → Lexes (rest_at text s.place) (part from before) lent n.used r x → Tells f x (going false) (state_of text a n.count s) → SavesRead a e n.count s r
-    → FetchesSaved limits text a e before (back from before lent) n s f (fetched_of (λ p. s_moved s p false false) 0 s.place r)
-saved_here before {s = s} f at y = saved before f (going false) s.indents false false (λ m. s.adjacent_value_allowed_at) at y y.low (λ q l. refl)
-
--- a plain scalar is never refused
-pub never_refused : {rest before after a e : List ℕ} {used count : ℕ} {s : State} {l : tokens.Lexeme} (r : Reading) → Lexes rest before after used r (got l)
-    → Saves a e count s → SavesRead a e count s r
-unfolding seen laid_read
-never_refused (Got l) h q = q
-never_refused (Refused f) h q = let z : ◌≡◌ {A = ℕ} 0 1 = cc h.same in absurd (omega arith)
+  -- else the candidate is saved
+  module _ {e : List ℕ} {l : Lexeme} (y : Ready limits text a s) (h : Lexes (rest_at text s.place) (unused n.used before) lent n.used (Ok l) x) (q : Saves a e n.count s) where
+    pub saved : (i : Indents) (leads allowed : Bool) (adjacent : Mark → ℕ) → Low limits.entries i
+        → ((m : tokens.Lexeme) → go m (state_of text e n.count s) ≡ state_to e n.count s (on i leads allowed adjacent) m.place)
+        → FetchesSaved limits text a e before (with_unused n.used before lent) n s f (Ok (Goes (closing_of 0 l.token) (goes_to s (on i leads allowed adjacent) (behind_of s.place l.next))))
+    saved i leads allowed adjacent low goes =
+        lexed_got before refl (on i leads allowed adjacent) x y (is_rest text s.place)
+        (record { low = low; few = omega arith })
+        h
+        (tells ∙ same_for_all x (λ m. rw (← q.same text, goes m)))
+        q.words
 
 -- each of them
 

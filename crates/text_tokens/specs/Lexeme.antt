@@ -16,6 +16,13 @@ use Rattle.states.specs.Key.{saved_words}
 use Rattle.states.specs.Lexed.{back, clipped, part}
 use Rattle.states.specs.State.{state_of}
 
+-- the unused end of the bytes; the bytes where another stands in its place
+abbrev pub unused : ℕ → List ℕ → List ℕ
+unused used before = part (clipped used (length before)) before
+
+abbrev pub with_unused : ℕ → List ℕ → List ℕ → List ℕ
+with_unused used before after = back (clipped used (length before)) before after
+
 -- a reader, which is called once, at a text and at bytes that are lent to it
 abbrev pub Reader : Type 0 → Type 0 → Type 1
 Reader F R = Once F (Bor (List ℕ) × (MutBor (List ℕ) × Unit {0})) (R × (MutBor (List ℕ) × Unit {0}))
@@ -29,10 +36,10 @@ pub record ReadsLent {F R : Type 0} (g : Reader F R) (f : F) (rest before after 
   pub shown : Bor (List ℕ)
   pub shows : shown.now ≡ rest
   pub lent : MutBor (List ℕ)
-  pub lends : lent.now ≡ part (clipped used (length before)) before
+  pub lends : lent.now ≡ unused used before
   pub left : MutBor (List ℕ)
   pub met : g.post f (shown, (lent, tt)) (r, (left, tt))
-  pub leaves : after ≡ back (clipped used (length before)) before left.now
+  pub leaves : after ≡ with_unused used before left.now
 
 -- a fetcher that saves a candidate: from the lent words a to e and the lent bytes `before` to `after`, which at a refusal are zeros
 -- behind those used so far; the definition's fetcher is f

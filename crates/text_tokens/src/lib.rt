@@ -12,10 +12,9 @@ ghost use Rattle.rooms.specs.Room.{cleared};
 ghost use Rattle.states.specs.Brief.{brief_fetched};
 ghost use Rattle.states.specs.Fetch.{FetchesText, OneByte, Ready};
 ghost use Rattle.states.specs.Key.{removed_words};
-ghost use Rattle.states.specs.Lexed.{clipped, part};
 ghost use Rattle.states.specs.Rest.{rest_at};
 ghost use Rattle.states.specs.State.{state_of};
-ghost use Rattle.text_tokens.specs.Lexeme.{FetchesSaved, ReadsLent, TakesLent};
+ghost use Rattle.text_tokens.specs.Lexeme.{FetchesSaved, ReadsLent, TakesLent, unused};
 
 use block_scalars::scan_block_scalar;
 use chars::mark::Place;
@@ -41,7 +40,7 @@ fn read_from<R, F: FnOnce(&[u8], &mut [u8]) -> R>(
     reader: F,
 ) -> R
     requires stands { p.at ≤ length text.now }
-    requires takes { TakesLent F.FnOnce reader (rest_at text.now p) (part (clipped used (length bytes.old)) bytes.old) }
+    requires takes { TakesLent F.FnOnce reader (rest_at text.now p) (unused used bytes.old) }
     ensures { ReadsLent F.FnOnce reader (rest_at text.now p) bytes.old bytes.new used result }
 {
     let from = bytes.len().min(used as usize);
