@@ -5,6 +5,7 @@ use mathlib.Core.List.{List, [], ◌∷◌}
 use mathlib.Core.Path.{◌≡◌, refl}
 use native.Mathlib.Numerals.{add-one}
 use native.Mathlib.Omega.{arith}
+use mir.Val.{bool_byte}
 use lib.ListN.{replicate, replicate-append-replicate}
 use lib.Seq.{sets}
 use Rattle.yaml_text.specs.Char.{line_feed}
@@ -51,6 +52,11 @@ more_replicate : (l : Between) → lines_after (between (line_of l)) ≡ replica
 unfolding lines_after line_of more_of
 more_replicate (Ahead n) = refl
 more_replicate (Behind w n) = refl
+
+-- a flag as a number
+pub flag_number : {n : ℕ} (b : Bool) → n ≡ bool_byte b → (n ≡ one_if b) × (n ≤ 1)
+flag_number true e = rw e (refl, omega arith)
+flag_number false e = rw e (refl, omega arith)
 
 pub last_replicate : (last : Bool) → pick last (line_feed ∷ []) [] ≡ replicate (one_if last) 10
 last_replicate true = refl

@@ -32,7 +32,12 @@ pub fn opens_content(text: &[u8], p: Place) -> bool
 pub fn ends_at(text: &[u8], at: usize) -> bool
     ensures { result ≡ none_left (chars (drop at text.now)) }
 {
-    !matches!(char_at(text, at), Decoded::Char { .. })
+    let d = char_at(text, at);
+    match d {
+        Decoded::Char { .. } => false,
+        Decoded::Ill => true,
+        Decoded::End => true,
+    }
 }
 
 // What holds for the whole scalar.
