@@ -22,21 +22,28 @@ use Rattle.chars.specs.Bytes.{byte_char}
 use Rattle.chars.specs.Places.{moves_along}
 use Rattle.chars.specs.Reach.{reach_one}
 use Rattle.chars.specs.View.{Moves, past, view}
-use Rattle.reading.specs.declared.Reading.{Reading}
-use Rattle.reading.specs.Reading.{Indicated, Lexes, first_at}
+use Rattle.std.specs.Prelude.{Option, Some, None, Result, Err}
+use Rattle.yaml_text.specs.declared.Refusal.{Refusal}
+use Rattle.yaml_text.specs.All.{not_read}
+use Rattle.reading.specs.declared.Lexeme.{Lexeme as Answer}
+use Rattle.reading.specs.Answers.{Reads, answers_refused}
+use Rattle.reading.specs.Reading.{Indicated, first_at}
 use Rattle.block_scalars.specs.declared.Block.{Block}
 use Rattle.block_content.specs.declared.Layout.{Layout}
 use Rattle.block_header.specs.declared.header.Header.{Header}
-use Rattle.block_header.specs.declared.header.Headed.{Headed}
-use Rattle.block_header.specs.declared.header.Headed.TheVariants.{Got, Zero}
 use Rattle.block_header.specs.declared.margin.Margin.{Margin}
 use Rattle.block_content.specs.Content.{Settles, first_of, layout_of, more_of, own_of}
 use Rattle.block_header.specs.Header.{Heads, seen_header}
 use Rattle.block_header.specs.Margin.{Margins, margin_ends, margin_goes}
 use Rattle.block_scalars.specs.Scan.{HeaderRead, after_header, content_lexeme, cut, empty_lexeme, header_end, header_of, margin_of, style_of, under_header}
 
-pub lexes_as : {text before after : List ℕ} {used : ℕ} {r : Reading} {x y : Read Lexeme} → Lexes text before after used r x → x ≡ y → Lexes text before after used r y
-lexes_as l e = rw (← e) l
+pub reads_as : {text before after : List ℕ} {used : ℕ} {r : Result Answer Refusal} {x y : Read Lexeme} → Reads text before after used r x → x ≡ y → Reads text before after used r y
+reads_as l e = rw (← e) l
+
+-- a refusal wrote nothing yet
+pub reads_refused : {text before : List ℕ} {used n : ℕ} {m : Mark} {r : Result Answer Refusal} {d : Read Lexeme} → r ≡ Err (record { number = n; mark = m }) → d ≡ refused n m
+    → Reads text before before used r d
+reads_refused e f = record { answers = answers_refused e f; texts = rw f not_read; kept = refl }
 
 -- behind the first margin
 
@@ -117,23 +124,23 @@ pub first_moves : {text : List ℕ} {start : Mark} {used : ℕ} {q : Place} → 
     → Moves text (first_at start) q (skip_by 1 (view text (first_at start)))
 first_moves {text} i e = rw e (moves_along i.given.stands 1 1 (reach_one (byte_char text 0 (get_or text 0 0) refl i.some i.ascii)))
 
-module _ {text : List ℕ} {q : Place} {r : Headed} (k : Block) (w : Moves text (first_at k.start) q (skip_by 1 (view text (first_at k.start)))) (h : Heads text q r) where
+module _ {text : List ℕ} {q : Place} {r : Option Header} (k : Block) (w : Moves text (first_at k.start) q (skip_by 1 (view text (first_at k.start)))) (h : Heads text q r) where
   abbrev whole : Read Lexeme
   whole = scan_block_scalar k.literal k.parent (view text (first_at k.start))
 
   begins : whole ≡ (seen_header k.start text r >>= after_header k)
   begins = cut k (view text (first_at k.start)) refl ∙ rw (h.same k.start, w.same)
 
-  pub scan_zero : r ≡ Zero → whole ≡ refused 29 k.start
+  pub scan_zero : r ≡ None → whole ≡ refused 29 k.start
   unfolding seen_header ◌>>=◌
   scan_zero e = begins ∙ rw e
 
-  pub scan_header : {g : Header} → r ≡ Got g → after_header k (header_of text g) ≡ whole
+  pub scan_header : {g : Header} → r ≡ Some g → after_header k (header_of text g) ≡ whole
   unfolding seen_header ◌>>=◌
   scan_header e = sym (begins ∙ rw e)
 
-pub ready_first : {text : List ℕ} {q : Place} {r : Headed} {g : Header} (k : Block) → Indicated text k.start k.used → k.parent < 2 ^ 21
-    → q ≡ past (first_at k.start) 1 (along k.start) → Heads text q r → r ≡ Got g → HeaderRead text k g g.place
+pub ready_first : {text : List ℕ} {q : Place} {r : Option Header} {g : Header} (k : Block) → Indicated text k.start k.used → k.parent < 2 ^ 21
+    → q ≡ past (first_at k.start) 1 (along k.start) → Heads text q r → r ≡ Some g → HeaderRead text k g g.place
 ready_first k i p e h f =
     let o = rw f at h.onward in
     let a = ap (λ (x : Place). x.at) e in

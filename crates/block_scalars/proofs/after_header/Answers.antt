@@ -1,24 +1,24 @@
 -- The blanks and comment are read, or refused as the definition does.
 use mathlib.Core.Path.{refl}
+use Rattle.std.proofs.lemmas.Result.{err_from_is_err_and}
 use Rattle.block_scalars.specs.Scan.{header_of}
 use Rattle.gaps.specs.Answers.{reached_refused, reached_to}
-use Rattle.block_scalars.proofs.Scans.{after_right, after_wrong, lexes_as, ready_on}
-use Rattle.reading.specs.Answers.{lexes_refused}
+use Rattle.block_scalars.proofs.Scans.{after_right, after_wrong, reads_as, reads_refused, ready_on}
 use Rattle.block_scalars.proofs.after_header.Goals as goal
 
 pub header_end-requires : goal.header_end-requires
 header_end-requires c =
-    let w = reached_to c.blanks_and_comment-r.ensures c.in-To.is in
+    let w = reached_to c.in_ok-e.ensures refl in
     ready_on c.requires (record { same = refl; stands = w.1; onward = w.2 })
 
-pub returns-in-Refused : goal.returns-in-Refused
-returns-in-Refused c =
+pub returns-in_err-e : goal.returns-in_err-e
+returns-in_err-e c =
     let a = c.args in
-    lexes_refused c.pass_on.ensures.0
-    (after_wrong a.k (header_of a.text.now a.h) (reached_refused c.blanks_and_comment-r.ensures c.in-Refused.is)) c.pass_on.ensures.1
+    let p = err_from_is_err_and c.from_residual.result c.from_residual.ensures.1 in
+    rw (p.1, p.2) (reads_refused refl (after_wrong a.k (header_of a.text.now a.h) (reached_refused c.in_err-e.ensures refl)))
 
-pub returns-in-To : goal.returns-in-To
-returns-in-To c =
+pub returns : goal.returns
+returns c =
     let a = c.args in
-    lexes_as c.header_end.ensures
-    (after_right a.k (header_of a.text.now a.h) (reached_to c.blanks_and_comment-r.ensures c.in-To.is).0)
+    reads_as c.header_end.ensures
+    (after_right a.k (header_of a.text.now a.h) (reached_to c.in_ok-e.ensures refl).0)

@@ -8,5 +8,5 @@ returns c =
     content_lexed a.k a.b a.g c.scalar.ensures
     c.read_content-c.ensures
     c.chomped.ensures
-    (rw (c.larger.ensures, c.ends_at.ensures))
+    (rw (c.max.ensures, c.ends_at.ensures))
     c.put_breaks-n.ensures

@@ -2,4 +2,4 @@
 use Rattle.block_scalars.proofs.scalar.Goals as goal
 
 pub returns : goal.returns
-returns c = rw (c.got.ensures, c.text_at.ensures, c.block_style.ensures)
+returns c = rw (c.new.ensures, c.text_at-text.ensures, c.pick-style.ensures)
