@@ -7,16 +7,8 @@ use Rattle.chars.specs.Each.{each_none, each_one, each_then}
 use Rattle.gaps.specs.Spaces.{spaces_over, spaces_past, tries_each}
 use Rattle.gaps.proofs.past_spaces.Goals as goal
 
-pub loop-at-init : goal.loop-at-init
-loop-at-init c = each_none c.requires
-
 pub returns-else-text-at-eq32 : goal.returns-else-text-at-eq32
 returns-else-text-at-eq32 c = spaces_over c.loop-at.invariant c.loop-at-test.true c.if-text-at-eq32.false
-
-pub loop-at-smaller : goal.loop-at-smaller
-loop-at-smaller c =
-    let h = c.loop-at-test.true in
-    omega (arith, tries_each (omega (arith, h)) c.past_some_spaces-at.ensures, h)
 
 pub loop-at-preserved : goal.loop-at-preserved
 unfolding is_space

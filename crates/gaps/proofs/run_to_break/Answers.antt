@@ -34,12 +34,6 @@ spanned c = low_spans (c.leading.ensures.value ∙ ap low_run (to_end c.args.tex
 char : (c : In-Char) → CharAt c.args.text.now c.skip_n_non_blank-q.result.at c.in-Char.code c.in-Char.len
 char c = char_at _ _ _ _ (sym c.char_at-d.ensures ∙ c.in-Char.is)
 
-pub loop-code-init : goal.loop-code-init
-loop-code-init c = spans_start c.requires
-
-pub skip_n_non_blank-q-requires : goal.skip_n_non_blank-q-requires
-skip_n_non_blank-q-requires c = let h = c.loop-code.invariant.walks.stands in (small h (search rules), low_few (counted c) h)
-
 pub returns-in_default : goal.returns-in_default
 returns-in_default c =
     spans_done (spanned (goal.at.returns-in_default c).After-skip_n_non_blank-q)

@@ -12,8 +12,5 @@ use Rattle.gaps.proofs.skip_blanks.Goals.{After-leading}
 counted : (c : After-leading) → c.leading.result ≡ prefix_len is_blank (drop c.args.start.at c.args.text.now)
 counted c = c.leading.ensures.value ∙ ap (prefix_len is_blank) (to_end c.args.text.now c.args.start.at)
 
-pub skip_n_non_blank-requires : goal.skip_n_non_blank-requires
-skip_n_non_blank-requires c = (small c.requires (search rules), blanks_few c.requires (counted c))
-
 pub returns : goal.returns
 returns c = blanks_past c.requires (counted (goal.at.returns c).After-leading) c.skip_n_non_blank.ensures

@@ -32,17 +32,8 @@ broken c = break_at c.loop-m.invariant.0.stands c.byte-c.ensures (sym c.is_break
 hash : (c : Else-c-ne35) → CharAt c.args.text.now c.loop-m.p.at '#' 1
 hash c = eq_char _ _ _ c.byte-c.ensures '#' tt c.if-c-ne35.false
 
-pub loop-m-init : goal.loop-m-init
-loop-m-init c = rw c.pick-b.ensures (walks_start c.requires, open_start c.args.leads)
-
-pub overflow_add-at : goal.overflow_add-at
-overflow_add-at c = let h = (blank (goal.at.overflow_add-at c).Then-is_blank).within in search rules
-
 pub past_spaces-requires : goal.past_spaces-requires
 past_spaces-requires c = (blank (goal.at.past_spaces-requires c).Then-is_blank).within
-
-pub overflow_sub-past_spaces : goal.overflow_sub-past_spaces
-overflow_sub-past_spaces c = omega (arith, spaces (goal.at.overflow_sub-past_spaces c).After-past_spaces)
 
 pub overflow_cast-past_spaces : goal.overflow_cast-past_spaces
 overflow_cast-past_spaces c = omega (arith, spaces (goal.at.overflow_cast-past_spaces c).After-past_spaces, c.loop-m.invariant.0.stands)
@@ -84,16 +75,10 @@ gap_end-requires c =
     (sym c.is_break.ensures ∙ c.if-is_break.false) c.if-c-ne35.true in
     (c.loop-m.invariant.0.stands, other, c.loop-m.invariant.1)
 
-pub returns-then-c-ne35 : goal.returns-then-c-ne35
-returns-then-c-ne35 c = skips_from c.loop-m.invariant.0 (c.gap_end.ensures _)
-
 pub returns-in-AfterText : goal.returns-in-AfterText
 returns-in-AfterText c =
     skips_from c.loop-m.invariant.0
     (skips_refused c.refuse.ensures (gap_wrong _ _ _ _ (hash (goal.at.returns-in-AfterText c).Else-c-ne35) c.in-AfterText.is))
-
-pub to_break-p-requires : goal.to_break-p-requires
-to_break-p-requires c = c.loop-m.invariant.0.stands
 
 pub loop-m-smaller : goal.loop-m-smaller
 unfolding is_break

@@ -25,9 +25,6 @@ text_end-e-requires c =
     let second : let m = c.args.start in c.skip_non_blank.result ≡ past (first_at m) c.lead_len-len.result (along m) = c.skip_non_blank.ensures ∙ ap (λ (p : Place). past p c.lead_len-len.result (along p.mark)) c.first_at-first.ensures in
     rw (second) (first_stands c.args.flow c.requires.0 (first))
 
-pub slice_bounds-copy-end : goal.slice_bounds-copy-end
-slice_bounds-copy-end c = sym (length-take-le _ _ c.text_end-e.ensures.moves.stands.within)
-
 pub returns : goal.returns
 returns c =
     let first : CharAt c.args.text.now 0 (peek (chars c.args.text.now) 0) c.lead_len-len.result = first_char _ c.requires.1 _ _ c.byte.ensures c.lead_len-len.ensures in

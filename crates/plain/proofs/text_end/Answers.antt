@@ -27,17 +27,11 @@ over_other c =
 pub loop-end-init : goal.loop-end-init
 loop-end-init c = on_run (on_start _ _ _ c.requires.within) c.past_blocks-at.ensures.each
 
-pub overflow_add-at : goal.overflow_add-at
-overflow_add-at c = omega (arith, (over_ordinary c).within)
-
 pub loop-end-smaller-then-is_ordinary : goal.loop-end-smaller-then-is_ordinary
 loop-end-smaller-then-is_ordinary c = omega (arith, (over_ordinary c).within)
 
 pub loop-end-preserved-then-is_ordinary : goal.loop-end-preserved-then-is_ordinary
 loop-end-preserved-then-is_ordinary c = over_ordinary (goal.at.loop-end-preserved-then-is_ordinary c).Then-is_ordinary
-
-pub overflow_add-at-then-is_blank_byte : goal.overflow_add-at-then-is_blank_byte
-overflow_add-at-then-is_blank_byte c = omega (arith, (over_blank c).within)
 
 pub loop-end-smaller-then-is_blank_byte : goal.loop-end-smaller-then-is_blank_byte
 loop-end-smaller-then-is_blank_byte c = omega (arith, (over_blank c).within)

@@ -9,12 +9,6 @@ use Rattle.quoted.proofs.quoted_run.Goals as goal
 pub loop-next-init : goal.loop-next-init
 loop-next-init c = running_start _ c.requires.0 c.requires.1 (rw (c.skip_blank.ensures, c.first_at-first.ensures))
 
-pub quoted_turn-requires : goal.quoted_turn-requires
-quoted_turn-requires c = c.loop-next.invariant.sound
-
-pub loop-next-smaller : goal.loop-next-smaller
-loop-next-smaller c = let l = running_less c.loop-next.invariant c.in_ok-next.ensures (ap Ok c.in-Goes.is) in omega (arith, l)
-
 pub loop-next-preserved : goal.loop-next-preserved
 loop-next-preserved c = running_more c.loop-next.invariant c.in_ok-next.ensures (ap Ok c.in-Goes.is) c.quoted_turn.auto.out
 

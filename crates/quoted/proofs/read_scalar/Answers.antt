@@ -4,9 +4,6 @@ use Rattle.std.proofs.lemmas.Result.{err_from_is_err_and}
 use Rattle.quoted.proofs.Finish.{scan_closed, scan_refused}
 use Rattle.quoted.proofs.read_scalar.Goals as goal
 
-pub after_quote-requires : goal.after_quote-requires
-after_quote-requires c = let b = c.in_ok-w.ensures.behind in (b.stands, b.onward, b.few)
-
 pub returns-in_err-w : goal.returns-in_err-w
 returns-in_err-w c =
     let p = err_from_is_err_and c.from_residual.result c.from_residual.ensures.1 in

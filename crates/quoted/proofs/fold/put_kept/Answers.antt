@@ -3,15 +3,6 @@ use native.Mathlib.Omega.{arith}
 use Rattle.quoted.proofs.Folds.{kept_blanks, kept_folded, kept_joined, kept_none}
 use Rattle.quoted.proofs.fold.put_kept.Goals as goal
 
-pub slice_bounds-copy-count : goal.slice_bounds-copy-count
-slice_bounds-copy-count c = let h = rw c.in-Blanks.is at c.requires.0 in omega (arith, h.0)
-
-pub slice_bounds-copy-start : goal.slice_bounds-copy-start
-slice_bounds-copy-start c = let h = rw c.in-Blanks.is at c.requires.0 in omega (arith, h.0, c.requires.1)
-
-pub overflow_sub-result : goal.overflow_sub-result
-overflow_sub-result c = let h = rw c.in-Blanks.is at c.requires.0 in omega (arith, h.0)
-
 pub returns-in-Chars : goal.returns-in-Chars
 returns-in-Chars c = kept_none _ c.in-Chars.is
 

@@ -22,9 +22,6 @@ returns-in_err-e c =
     let p = err_from_is_err_and c.from_residual.result c.from_residual.ensures.1 in
     rw (p.1, p.2) (refused_turns _ c.requires.0 c.requires.1 c.requires.2 (rw c.break_length-k.ensures at c.if-k-gt0.false) _ c.in_err-e.ensures refl)
 
-pub put_char-m-requires : goal.put_char-m-requires
-put_char-m-requires c = (omega (arith, c.requires.0), c.in_ok-e.ensures.ahead.0)
-
 pub returns : goal.returns
 returns c =
     one_turns _ c.requires.0 c.requires.1 c.requires.2 (rw c.break_length-k.ensures at c.if-k-gt0.false) c.in_ok-e.ensures c.put_char-m.ensures.0 c.put_char-m.ensures.1

@@ -6,6 +6,3 @@ use Rattle.quoted.proofs.turns.on_break.Goals as goal
 
 pub skip_linebreak-requires : goal.skip_linebreak-requires
 skip_linebreak-requires c = (search rules, rw c.break_length.ensures (break_few _))
-
-pub returns : goal.returns
-returns c = c.goes.ensures ∙ rw (c.skip_linebreak.ensures, c.after_break.ensures, c.break_length.ensures)

@@ -18,9 +18,6 @@ returns-in_default c = end_turns _ (no_chars c.args.text.now c.args.t.place.at _
 pub returns-then-is_blank : goal.returns-then-is_blank
 returns-then-is_blank c = blank_chosen _ c.requires (char (goal.at.returns-then-is_blank c).In-Char) (sym c.is_blank.ensures ∙ c.if-is_blank.true) c.on_blank.ensures
 
-pub on_break-requires : goal.on_break-requires
-on_break-requires c = (search rules, owed_small c.requires)
-
 pub returns-then-is_break : goal.returns-then-is_break
 returns-then-is_break c =
     break_chosen _ c.requires (char (goal.at.returns-then-is_break c).In-Char) (sym c.is_break.ensures ∙ c.if-is_break.true) (ap Ok c.on_break.ensures)

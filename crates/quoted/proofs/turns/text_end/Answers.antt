@@ -14,12 +14,6 @@ use Rattle.quoted.proofs.turns.text_end.Goals.{In-Char}
 char : (c : In-Char) → CharAt c.args.text.now c.loop-p.p.at c.in-Char.code c.in-Char.len
 char c = char_at _ _ _ _ (sym c.char_at-d.ensures ∙ c.in-Char.is)
 
-pub loop-p-init : goal.loop-p-init
-loop-p-init c = spans_start c.requires
-
-pub skip_blank-p-requires : goal.skip_blank-p-requires
-skip_blank-p-requires c = small c.loop-p.invariant.walks.stands (search rules)
-
 pub loop-p-preserved-then-is_ordinary : goal.loop-p-preserved-then-is_ordinary
 loop-p-preserved-then-is_ordinary c =
     let a = c.args in
@@ -27,12 +21,6 @@ loop-p-preserved-then-is_ordinary c =
 
 pub loop-p-smaller-then-is_ordinary : goal.loop-p-smaller-then-is_ordinary
 loop-p-smaller-then-is_ordinary c = omega (arith, (loop-p-preserved-then-is_ordinary c).walks.stands.within, ap (λ (p : Place). p.at) c.skip_blank-p.ensures)
-
-pub is_inner-requires : goal.is_inner-requires
-is_inner-requires c = c.loop-p.invariant.walks.stands.within
-
-pub skip_blank-p-requires-then-is_inner : goal.skip_blank-p-requires-then-is_inner
-skip_blank-p-requires-then-is_inner c = small c.loop-p.invariant.walks.stands (search rules)
 
 pub loop-p-preserved-then-is_inner : goal.loop-p-preserved-then-is_inner
 loop-p-preserved-then-is_inner c =

@@ -8,12 +8,6 @@ use Rattle.quoted.specs.declared.fold.Mode.TheVariants.{Blanks, Chars, Folded}
 use Rattle.quoted.specs.Modes.{break_mode}
 use Rattle.quoted.proofs.fold.Mode.after_break.Goals as goal
 
-pub overflow_add-result : goal.overflow_add-result
-overflow_add-result c = let h = rw c.in-Folded.is at c.requires in omega arith
-
-pub overflow_add-result-in-Joined : goal.overflow_add-result-in-Joined
-overflow_add-result-in-Joined c = let h = rw c.in-Joined.is at c.requires in omega arith
-
 -- behind text or blanks
 begins : (mode : Mode) → (mode ≡ Chars) ⊎ ((from : ℕ) × mode ≡ Blanks from) → Folded 0 ≡ break_mode mode
 unfolding break_mode
