@@ -116,6 +116,7 @@ pub struct Gap {
 }
 
 // What stands before the character behind the blank c.
+#[tactic(auto, unfolding(yaml_lexeme::specs::Gap::on_blank))]
 fn on_blank(flow: bool, m: Mark, c: u8, b: Before) -> Before
     ensures { result ≡ on_blank flow m c b }
 {
@@ -127,6 +128,7 @@ fn on_blank(flow: bool, m: Mark, c: u8, b: Before) -> Before
 }
 
 // Whether only blanks stand between the line's start and here.
+#[tactic(auto, unfolding(yaml_lexeme::specs::Gap::is_leading))]
 fn is_leading(b: Before) -> bool
     ensures { result ≡ is_leading b }
 {

@@ -24,6 +24,7 @@ use yaml_lexeme::{Kind, Style};
 use yaml_text::{Decoded, Mark};
 
 // Whether a ':' ends a plain scalar before the character at a place.
+#[tactic(auto, unfolding(crate::specs::Text::ends_at_colon))]
 fn ends_at_colon(text: &[u8], at: usize, flow: bool) -> bool
     ensures { result ≡ ends_at_colon flow (peek (chars (drop at text.now)) 0) }
 {
@@ -72,6 +73,7 @@ fn wide_at(text: &[u8], at: usize, b: u8) -> Decoded
 
 // Whether the byte b at a place and the two behind it are one character by their form: these leads begin no surrogate, no byte order mark and
 // no longer form than need be.
+#[tactic(auto, unfolding(crate::specs::Text::usual))]
 fn is_usual(text: &[u8], at: usize, b: u8) -> bool
     requires { at ≤ length text.now }
     ensures { result ≡ usual b (get_or text.now (at + 1) 0) (get_or text.now (at + 2) 0) }

@@ -22,6 +22,7 @@ pub enum Mode {
 
 impl Mode {
     // Behind a blank at a place.
+    #[tactic(auto, unfolding(crate::specs::Modes::blank_mode))]
     pub fn after_blank(self, at: usize) -> Mode
         ensures { result ≡ blank_mode at self }
     {
@@ -33,6 +34,7 @@ impl Mode {
     }
 
     // Behind a break: blanks before it go.
+    #[tactic(auto, unfolding(crate::specs::Modes::break_mode))]
     pub fn after_break(self) -> Mode
         requires { owed 0 self < 2 ^ 31 }
         ensures { result ≡ break_mode self }

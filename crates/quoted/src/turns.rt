@@ -123,6 +123,7 @@ fn on_backslash(text: &[u8], q: Quote, w: Written, out: &mut [u8]) -> Result<Tur
 }
 
 // Most characters of a text by far: no blank, break, quote or backslash.
+#[tactic(auto, unfolding(crate::specs::Texts::ordinary))]
 fn is_ordinary(b: u8) -> bool
     ensures { result ≡ ordinary b }
 {
@@ -130,6 +131,7 @@ fn is_ordinary(b: u8) -> bool
 }
 
 // Whether a run of text ends at the character c.
+#[tactic(auto, unfolding(crate::specs::Texts::special))]
 fn is_special(c: u32, single: bool) -> bool
     ensures { result ≡ special single c }
 {
@@ -137,6 +139,7 @@ fn is_special(c: u32, single: bool) -> bool
 }
 
 // Whether the byte b at a place is a space before text that stands for itself. spaces: whether any counts.
+#[tactic(auto, unfolding(crate::specs::Texts::inner))]
 fn is_inner(text: &[u8], at: usize, b: u8, spaces: bool) -> bool
     requires { at ≤ length text.now }
     ensures { result ≡ inner spaces b (get_or text.now (at + 1) 0) }
