@@ -1,4 +1,5 @@
 -- The handle of %TAG.
+use Rattle.std.specs.Prelude.{Ok, Err}
 use Prim.Native.Nat.{◌+◌, ℕ}
 use mathlib.Core.Bool.{Bool, false, true}
 use mathlib.Core.List.{List, [], ◌++◌, ◌∷◌}
@@ -18,8 +19,6 @@ use Rattle.chars.specs.declared.mark.Place.{Place}
 use Rattle.chars.specs.Bytes.{CharAt, ne_char}
 use Rattle.chars.specs.Parts.{Spans, part_more, part_none}
 use Rattle.chars.specs.View.{past, view}
-use Rattle.reading.specs.declared.Reached.{Reached}
-use Rattle.reading.specs.declared.Reached.TheVariants.{Refused, To}
 use Rattle.runs.specs.RunLaws.{span_none, span_some}
 use Rattle.directives.proofs.Spans.{span_before, span_behind}
 use Rattle.directives.specs.Tag.{Handles, handle, no_handle}
@@ -40,10 +39,10 @@ module _ (start : Mark) (p : definition.Place) (e : eqb (look p) '!' ≡ true) (
 
 -- the answers
 module _ (start : Mark) {text : List ℕ} (p : Place) where
-  pub handle_none : {c : ℕ} {r : Reached} → c ≡ get_or text p.at 0 → (c ≡ '!' → ⊥) → r ≡ Refused (record { number = 16; mark = start })
-      → Handles text p r (tag_handle start (view text p))
+  pub handle_none : {c : ℕ} → c ≡ get_or text p.at 0 → (c ≡ '!' → ⊥)
+      → Handles text p (Err (record { number = 16; mark = start })) (tag_handle start (view text p))
   unfolding tag_handle ◌>>=◌ need
-  handle_none {c} b e f = rw (f, ne_char text p.at c b '!' tt e) no_handle
+  handle_none {c} b e = rw (ne_char text p.at c b '!' tt e) no_handle
 
   module _ {h : Place} (a : CharAt text p.at '!' 1) (s : Spans text (past p 1 (along p.mark)) h (run_of is_alpha (along p.mark) (chars (drop (p.at + 1) text)))) where
     abbrev name : Run
@@ -58,22 +57,21 @@ module _ (start : Mark) {text : List ℕ} (p : Place) where
     behind : {b : Bool} → eqb (peek (chars (drop h.at text)) 0) '!' ≡ b → eqb (look name.place) '!' ≡ b
     behind e = ap (λ (q : definition.Place). eqb (look q) '!') (sym s.moves.same) ∙ e
 
-    pub handle_closed : {r : Reached} → CharAt text h.at '!' 1 → r ≡ To (past h 1 (along h.mark)) → Handles text p r (tag_handle start (view text p))
-    handle_closed c f = rw (f, is_closed start (view text p) mark name read (behind (rw c.next))) (handle (span_behind (span_before a s) c))
+    pub handle_closed : CharAt text h.at '!' 1 → Handles text p (Ok (past h 1 (along h.mark))) (tag_handle start (view text p))
+    handle_closed c = rw (is_closed start (view text p) mark name read (behind (rw c.next))) (handle (span_behind (span_before a s) c))
 
     module _ {c : ℕ} (b : c ≡ get_or text h.at 0) (n : c ≡ '!' → ⊥) where
       other : eqb (look name.place) '!' ≡ false
       other = behind (ne_char text h.at c b '!' tt n)
 
-      pub handle_lone : {r : Reached} → h.at ≡ p.at + 1 → r ≡ To h → Handles text p r (tag_handle start (view text p))
+      pub handle_lone : h.at ≡ p.at + 1 → Handles text p (Ok h) (tag_handle start (view text p))
       unfolding encode char_bytes
-      handle_lone e f =
-          rw (f, is_lone start (view text p) mark name read other (span_none s e))
+      handle_lone e =
+          rw (is_lone start (view text p) mark name read other (span_none s e))
           (handle {h = record { text = '!' ∷ []; place = name.place }} (record {
             moves = record { same = s.moves.same; stands = s.moves.stands; onward = omega arith };
             bytes = rw (e, part_more text p.at (omega arith) a, part_none text p.at);
           }))
 
-      pub handle_open : {r : Reached} → (h.at ≡ p.at + 1 → ⊥) → r ≡ Refused (record { number = 17; mark = start })
-          → Handles text p r (tag_handle start (view text p))
-      handle_open e f = rw (f, is_open start (view text p) mark name read other (span_some s e)) no_handle
+      pub handle_open : (h.at ≡ p.at + 1 → ⊥) → Handles text p (Err (record { number = 17; mark = start })) (tag_handle start (view text p))
+      handle_open e = rw (is_open start (view text p) mark name read other (span_some s e)) no_handle

@@ -1,13 +1,14 @@
 -- The parameters of a reserved directive, as code joins them: what is left gives the whole.
+use Rattle.std.specs.Prelude.{Ok}
 use Prim.Native.Nat.{◌+◌, ◌-◌, ◌<◌, ◌≤◌, ℕ}
 use mathlib.Core.Bool.{Bool, false, true}
 use mathlib.Core.List.{List, ◌++◌}
 use mathlib.Core.Path.{◌∙◌, ◌≡◌, ap, refl, sym}
 use native.Mathlib.Omega.{arith}
-use lib.Dec.{ltb}
+use lib.Dec.{eqb, ltb}
 use lib.ListN.{drop, length, length-append, set}
 use lib.Seq.{length-sets, sets}
-use borrow.Author.Tests.{le-ltb, lt-ltb, ltb-false, ltb-true}
+use borrow.Author.Tests.{eq-eqb, eqb-true, le-ltb, lt-ltb, ltb-false, ltb-true}
 use Rattle.rooms.specs.Room.{sets_join}
 use Rattle.yaml_text.specs.Char.{space}
 use Rattle.yaml_text.specs.Class.{is_blank, is_non_space, peek}
@@ -21,10 +22,11 @@ use Rattle.yaml_lexeme.specs.Directive.{blanks_at, parameters}
 use Rattle.chars.specs.declared.mark.Place.{Place}
 use Rattle.chars.specs.Parts.{Spans, part}
 use Rattle.chars.specs.View.{Moves, Stands, view}
-use Rattle.runs.specs.declared.Run.TheVariants.{To}
+use Rattle.reading.specs.declared.Written.{Written}
 use Rattle.runs.specs.Run.{Writes, seen_run, written}
 use Rattle.runs.specs.RunLaws.{span_none, span_size, span_some, written_before}
 use Rattle.directives.specs.Name.{spaced}
+use Rattle.directives.proofs.Spans.{span_long}
 use Rattle.directives.proofs.Words.{blanks_end, first_blanks, join_blanks, join_none, join_word, nonspace_end, run_of_end, run_of_none, run_of_some}
 
 -- the parameters from a place on, behind others or not
@@ -61,9 +63,9 @@ joining_start n m =
     }
 
 -- the blanks before the first word count as read
-pub joining_from : {text before out : List ℕ} {from p q : Place} {n k : ℕ} → Moves text from p (blanks_at (view text from))
-    → Writes text before out p n (To q k) (got (from_here false false (view text p)))
-    → Writes text before out from n (To q k) (got (from_here false false (view text from)))
+pub joining_from : {text before out : List ℕ} {from p : Place} {n : ℕ} {x : Written} → Moves text from p (blanks_at (view text from))
+    → Writes text before out p n (Ok x) (got (from_here false false (view text p)))
+    → Writes text before out from n (Ok x) (got (from_here false false (view text from)))
 joining_from {text} {before} {from = from} {n = n} m w =
     let e = first_blanks false from.mark (chars (drop from.at text)) ∙ ap (from_here false false) (sym m.same) in
     record { same = rw e w.same; kept = w.kept; ahead = (w.ahead.0, omega (arith, w.ahead.1, m.onward)) }
@@ -92,7 +94,14 @@ spaced_few n k a b h g =
 
 module _ {text before out : List ℕ} {from p e : Place} {n k : ℕ} (w : Joining text before from n out p k)
     (s : Spans text p e (run_of is_non_space p.mark (chars (drop p.at text)))) where
-  pub joining_done : e.at ≡ p.at → Writes text before out from n (To p k) (got (from_here false false (view text from)))
+  -- the word that stands here
+  pub word_none : eqb (length (part text p.at e.at)) 0 ≡ true → e.at ≡ p.at
+  word_none f = let l = span_long s in let z = eqb-true (length (part text p.at e.at)) 0 f in omega (arith, s.moves.onward)
+
+  pub word_some : eqb (length (part text p.at e.at)) 0 ≡ false → e.at ≡ p.at → ⊥
+  word_some f z = let l = span_long s in true_false (sym (eq-eqb (length (part text p.at e.at)) 0 (omega arith)) ∙ f)
+
+  pub joining_done : e.at ≡ p.at → Writes text before out from n (Ok (record { count = k; place = p })) (got (from_here false false (view text from)))
   unfolding seen_run written encode
   joining_done z =
       let y : k + 0 ≡ k = omega arith in

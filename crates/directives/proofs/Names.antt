@@ -1,4 +1,5 @@
 -- A directive's name, told by its bytes.
+use Rattle.std.specs.Prelude.{Result}
 use Prim.Native.Nat.{◌+◌, ◌-◌, ◌<◌, ◌≤◌, suc, ℕ}
 use mathlib.Core.Bool.{Bool, ◌&&◌, false, true}
 use mathlib.Core.List.{List, [], ◌++◌, ◌∷◌}
@@ -6,6 +7,7 @@ use mathlib.Core.Path.{◌∙◌, ◌≡◌, ap, refl, sym}
 use native.Mathlib.Numerals.{add-one}
 use native.Mathlib.Omega.{arith}
 use lib.Dec.{eqb, ltb}
+use lib.Pointwise.{pointwise}
 use lib.ListN.{drop, drop_of_length-le, get_or, length, length-drop}
 use lib.Seq.{drop-cons, get_or-drop, get_or-take, length-take-le}
 use borrow.Author.Tests.{eq-eqb, ltb-false, ltb-true, ne_eqb}
@@ -20,71 +22,18 @@ use Rattle.yaml_lexeme.specs.Directive.{directive_of, reserved_directive, tag_di
 use Rattle.chars.specs.declared.mark.Place.{Place}
 use Rattle.chars.specs.Parts.{Spans, part}
 use Rattle.chars.specs.View.{view}
-use Rattle.reading.specs.declared.Reading.{Reading}
-use Rattle.reading.specs.Answers.{behind_first}
-use Rattle.reading.specs.Reading.{Lexes}
+use Rattle.yaml_text.specs.declared.Refusal.{Refusal}
+use Rattle.reading.specs.declared.Lexeme.{Lexeme}
+use Rattle.reading.specs.Answers.{Reads, behind_first}
 use Rattle.directives.specs.Name.{name_in}
 
-and_false : (b : Bool) → (b && false) ≡ false
-and_false true = refl
-and_false false = refl
-
-same_lengths : (s t : List ℕ) → (length s ≡ length t → ⊥) → same s t ≡ false
+-- slices are compared as texts are
+pub same_slices : (s t : List ℕ) → pointwise eqb s t ≡ same s t
 unfolding same
-same_lengths [] [] h = absurd (h refl)
-same_lengths [] (y ∷ t) h = refl
-same_lengths (x ∷ s) [] h = refl
-same_lengths (x ∷ s) (y ∷ t) h = rw (same_lengths s t (λ e. h (ap suc e))) (and_false (eqb x y))
-
--- two texts, compared up to i: what is left gives the whole
-pub record Alike (s t : List ℕ) (i : ℕ) : Type 0 where
-  pub long : length s ≡ length t
-  pub whole : same s t ≡ same (drop i s) (drop i t)
-
-module _ {s t : List ℕ} {i : ℕ} (a : Alike s t i) where
-  module _ (h : i < length t) where
-    turn : same s t ≡ (eqb (get_or s i 0) (get_or t i 0) && same (drop (suc i) s) (drop (suc i) t))
-    unfolding same
-    turn = let k : i < length s = omega (arith, a.long) in a.whole ∙ rw (drop-cons s i 0, drop-cons t i 0)
-
-    alike_no : (get_or s i 0 ≡ get_or t i 0 → ⊥) → same s t ≡ false
-    alike_no e = turn ∙ rw (ne_eqb (get_or s i 0) (get_or t i 0) e)
-
-    alike_more : get_or s i 0 ≡ get_or t i 0 → Alike s t (i + 1)
-    alike_more e = record { long = a.long; whole = rw (add-one i) (turn ∙ rw (eq-eqb (get_or s i 0) (get_or t i 0) e)) }
-
-  alike_done : length t ≤ i → same s t ≡ true
-  unfolding same
-  alike_done h = let k : length s ≤ i = omega (arith, a.long) in a.whole ∙ rw (drop_of_length-le s k, drop_of_length-le t h)
-
--- the name that ends at `to`, against another
-pub record Spelling (text : List ℕ) (to : ℕ) (name : List ℕ) (i : ℕ) : Type 0 where
-  pub alike : Alike (part text 1 to) name i
-  pub long : length name ≡ to - 1
-
-part_length : (text : List ℕ) (to : ℕ) → to ≤ length text → length (part text 1 to) ≡ to - 1
-part_length text to h = let l = length-drop 1 text in length-take-le (to - 1) (drop 1 text) (omega arith)
-
-module _ (text name : List ℕ) {to : ℕ} (within : to ≤ length text) where
-  pub spelling_long : (length name ≡ to - 1 → ⊥) → false ≡ same (part text 1 to) name
-  spelling_long h = sym (same_lengths (part text 1 to) name (λ e. h (sym e ∙ part_length text to within)))
-
-  pub spelling_start : length name ≡ to - 1 → Spelling text to name 0
-  spelling_start e = record { alike = record { long = part_length text to within ∙ sym e; whole = refl }; long = e }
-
-module _ {text name : List ℕ} {to i : ℕ} (w : Spelling text to name i) where
-  pub spelling_done : length name ≤ i → true ≡ same (part text 1 to) name
-  spelling_done h = sym (alike_done w.alike h)
-
-  module _ (h : i < length name) where
-    at : get_or (part text 1 to) i 0 ≡ get_or text (i + 1) 0
-    at = let k : i < to - 1 = omega (arith, w.long) in let e : 1 + i ≡ i + 1 = omega arith in get_or-take (to - 1) (drop 1 text) i 0 k ∙ get_or-drop 1 text i 0 ∙ rw e
-
-    pub spelling_no : (get_or text (i + 1) 0 ≡ get_or name i 0 → ⊥) → false ≡ same (part text 1 to) name
-    spelling_no e = sym (alike_no w.alike h (λ f. e (sym at ∙ f)))
-
-    pub spelling_more : get_or text (i + 1) 0 ≡ get_or name i 0 → Spelling text to name (i + 1)
-    spelling_more e = record { alike = alike_more w.alike h (at ∙ e); long = w.long }
+same_slices [] [] = refl
+same_slices [] (y ∷ t) = refl
+same_slices (x ∷ s) [] = refl
+same_slices (x ∷ s) (y ∷ t) = rw (same_slices s t)
 
 -- bytes that are characters tell a text as its characters do
 abbrev Low : List ℕ → Type 0
@@ -144,19 +93,19 @@ module _ (start : Mark) {text : List ℕ} {p : Place} (s : Spans text (behind_fi
     as_yaml : same name yaml_name ≡ b
     as_yaml = spelled yaml_name (omega arith, (omega arith, (omega arith, (omega arith, tt)))) e
 
-    pub of_version : {before after : List ℕ} {used : ℕ} {r : Reading} → b ≡ true → Lexes text before after used r (version_directive start (view text p))
-        → Lexes text before after used r (directive_of start name (view text p))
+    pub of_version : {before after : List ℕ} {used : ℕ} {r : Result Lexeme Refusal} → b ≡ true → Reads text before after used r (version_directive start (view text p))
+        → Reads text before after used r (directive_of start name (view text p))
     of_version f d = rw (is_version start name (view text p) (as_yaml ∙ f)) d
 
     module _ {a : Bool} (f : b ≡ false) (g : a ≡ same (part text 1 p.at) tag_name) where
       as_tag : same name tag_name ≡ a
       as_tag = spelled tag_name (omega arith, (omega arith, (omega arith, tt))) g
 
-      pub of_tag : {before after : List ℕ} {used : ℕ} {r : Reading} → a ≡ true → Lexes text before after used r (tag_directive start (view text p))
-          → Lexes text before after used r (directive_of start name (view text p))
+      pub of_tag : {before after : List ℕ} {used : ℕ} {r : Result Lexeme Refusal} → a ≡ true → Reads text before after used r (tag_directive start (view text p))
+          → Reads text before after used r (directive_of start name (view text p))
       of_tag h d = rw (is_tag start name (view text p) (as_yaml ∙ f) (as_tag ∙ h)) d
 
-      pub of_other : {before after : List ℕ} {used : ℕ} {r : Reading} → a ≡ false
-          → Lexes text before after used r (got (reserved_directive start name (view text p)))
-          → Lexes text before after used r (directive_of start name (view text p))
+      pub of_other : {before after : List ℕ} {used : ℕ} {r : Result Lexeme Refusal} → a ≡ false
+          → Reads text before after used r (got (reserved_directive start name (view text p)))
+          → Reads text before after used r (directive_of start name (view text p))
       of_other h d = rw (is_reserved start name (view text p) (as_yaml ∙ f) (as_tag ∙ h)) d

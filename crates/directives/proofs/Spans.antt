@@ -3,8 +3,8 @@ use Prim.Native.Nat.{◌+◌, ◌-◌, ℕ}
 use mathlib.Core.List.{List, [], ◌++◌, ◌∷◌}
 use mathlib.Core.Path.{◌∙◌, ◌≡◌, ap, sym}
 use native.Mathlib.Omega.{arith}
-use lib.ListN.{length}
-use lib.Seq.{length-sets, sets}
+use lib.ListN.{drop, length, length-drop}
+use lib.Seq.{length-sets, length-take-le, sets}
 use Rattle.rooms.specs.Room.{sets_join}
 use Rattle.yaml_text.specs.declared.Mark.{Mark}
 use Rattle.yaml_text.specs.Mark.{Run, along, skip_by}
@@ -41,6 +41,11 @@ module _ {text : List ℕ} {p q : Place} {c n : ℕ} where
         };
         bytes = rw (encode_append d.text (c ∷ []), encode_one c, s.bytes) (sym (part_more text p.at s.moves.onward a));
       }
+
+pub span_long : {text : List ℕ} {p q : Place} {d : Run} → Spans text p q d → length (part text p.at q.at) ≡ q.at - p.at
+span_long {text} {p} {q} s =
+    let l = length-drop p.at text in
+    length-take-le (q.at - p.at) (drop p.at text) (omega (arith, s.moves.stands.within))
 
 -- the first text that is written
 pub span_front : {text before mid : List ℕ} {p q : Place} {d : Run} → Spans text p q d → mid ≡ sets before 0 (part text p.at q.at)

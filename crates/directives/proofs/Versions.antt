@@ -1,4 +1,5 @@
 -- %YAML: the digits of a number one by one, and the two numbers.
+use Rattle.std.specs.Prelude.{Result, Ok, Err}
 use Prim.Native.Nat.{◌*◌, ◌+◌, ◌-◌, ◌<◌, ◌^◌, ◌≤◌, suc, ℕ}
 use mathlib.Core.Bool.{false, true}
 use mathlib.Core.List.{List, [], ◌∷◌}
@@ -30,13 +31,10 @@ use Rattle.chars.specs.Ascii.{digit_ascii}
 use Rattle.chars.specs.Bytes.{CharAt, ascii_at, ascii_char, ne_char}
 use Rattle.chars.specs.Places.{stands_along}
 use Rattle.chars.specs.View.{Moves, Stands, past, view}
-use Rattle.reading.specs.declared.Reading.{Reading}
-use Rattle.reading.specs.declared.Reading.TheVariants as reading
 use Rattle.reading.specs.Answers.{ReaderAnswers, TextsIn, answers_got, answers_refused}
 use Rattle.reading.specs.Reading.{text_size}
 use Rattle.directives.specs.declared.version.Numbered.{Numbered}
-use Rattle.directives.specs.declared.version.Numbered.TheVariants.{Got, Refused}
-use Rattle.directives.specs.Version.{Numbers, minor_version, seen_number}
+use Rattle.directives.specs.Version.{Numbers, seen_number}
 
 abbrev digits_at : List ℕ → Mark → Place → ℕ → ℕ → Read directive.Numbered
 digits_at text start p n v = version_digits start n v p.mark (chars (drop p.at text))
@@ -45,12 +43,11 @@ digits_at text start p n v = version_digits start n v p.mark (chars (drop p.at t
 pub record Counting (text : List ℕ) (start : Mark) (from p : Place) (v n : ℕ) : Type 0 where
   pub stands : Stands text p
   pub onward : from.at ≤ p.at
-  pub few : n ≤ 9
   pub small : v < 10 ^ n
   pub whole : digits_at text start from 0 0 ≡ digits_at text start p n v
 
 pub counting_start : {text : List ℕ} {start : Mark} {from : Place} → Stands text from → Counting text start from from 0 0
-counting_start h = record { stands = h; onward = omega arith; few = omega arith; small = omega arith; whole = refl }
+counting_start h = record { stands = h; onward = omega arith; small = omega arith; whole = refl }
 
 pub digit_value : (c : ℕ) → is_digit c ≡ true → (48 ≤ c) × (c ≤ 57)
 unfolding is_digit
@@ -63,7 +60,7 @@ digits_none start n v m [] e = refl
 digits_none start n v m (c ∷ cs) e = digits_stop start n v m c cs e
 
 module _ {text : List ℕ} {start : Mark} {from p : Place} {v n : ℕ} (w : Counting text start from p v n) {c : ℕ} (b : c ≡ get_or text p.at 0) where
-  pub counting_stop : is_digit c ≡ false → Numbers text from (Got v p) (digits_at text start from 0 0)
+  pub counting_stop : is_digit c ≡ false → Numbers text from (Ok (record { value = v; place = p })) (digits_at text start from 0 0)
   unfolding seen_number
   counting_stop e =
       record {
@@ -75,20 +72,19 @@ module _ {text : List ℕ} {start : Mark} {from p : Place} {v n : ℕ} (w : Coun
     pub digit_char : CharAt text p.at c 1
     digit_char = ascii_char text p.at c b digit_ascii e
 
-    pub counting_long : n ≡ 9 → {r : Numbered} → r ≡ Refused (record { number = 14; mark = start }) → Numbers text from r (digits_at text start from 0 0)
+    pub counting_long : 9 ≤ n → Numbers text from (Err (record { number = 14; mark = start })) (digits_at text start from 0 0)
     unfolding seen_number
-    counting_long z f =
-        rw f
-        (record {
-          same = sym (w.whole ∙ rw digit_char.next (digits_long start n v p.mark c (chars (drop (p.at + 1) text)) e (le-ltb n 9 (omega arith))));
+    counting_long z =
+        record {
+          same = sym (w.whole ∙ rw digit_char.next (digits_long start n v p.mark c (chars (drop (p.at + 1) text)) e (le-ltb n 9 z)));
           ahead = tt;
-        })
+        }
 
-    module _ (z : n ≡ 9 → ⊥) where
+    module _ (z : n < 9) where
       -- no number of nine digits wraps
       pub counting_room : v * 10 + 9 < 2 ^ 32
       counting_room =
-          let m : suc n ≤ 9 = omega (arith, w.few) in
+          let m : suc n ≤ 9 = omega arith in
           let p = pow-le-pow_right {n = 10} (omega arith) m in
           let q = pow-suc 10 n in
           omega (arith, w.small)
@@ -100,79 +96,69 @@ module _ {text : List ℕ} {start : Mark} {from p : Place} {v n : ℕ} (w : Coun
           record {
             stands = stands_along w.stands 1 1 (omega arith) digit_char.within;
             onward = omega (arith, w.onward);
-            few = omega (arith, w.few);
             small = rw add-one (omega (arith, w.small));
             whole = w.whole
-                ∙ rw (digit_char.next, add-one n) (digits_more start n v p.mark c (chars (drop (p.at + 1) text)) e (lt-ltb n 9 (omega (arith, w.few))));
+                ∙ rw (digit_char.next, add-one n) (digits_more start n v p.mark c (chars (drop (p.at + 1) text)) e (lt-ltb n 9 z));
           }
 
-module _ {text : List ℕ} {p : Place} {r : Numbered} {d : Read directive.Numbered} (h : Numbers text p r d) where
-  number_got : {v : ℕ} {q : Place} → r ≡ Got v q → d ≡ got (record { value = v; place = view text q })
+module _ {text : List ℕ} {p : Place} {d : Read directive.Numbered} where
+  number_got : {n : Numbered} → Numbers text p (Ok n) d → d ≡ got (record { value = n.value; place = view text n.place })
   unfolding seen_number
-  number_got e = sym (rw e at h.same)
+  number_got h = sym h.same
 
-  pub number_ahead : {v : ℕ} {q : Place} → r ≡ Got v q → Stands text q × (p.at ≤ q.at)
-  number_ahead e = rw e at h.ahead
-
-  number_refused : {f : Refusal} → r ≡ Refused f → d ≡ refused f.number f.mark
+  number_refused : {f : Refusal} → Numbers text p (Err f) d → d ≡ refused f.number f.mark
   unfolding seen_number
-  number_refused e = sym (rw e at h.same)
+  number_refused h = sym h.same
 
 -- a number, by its first character
-module _ (start : Mark) {text : List ℕ} {p : Place} {r : Numbered} {c : ℕ} (b : c ≡ get_or text p.at 0) where
-  pub number_some : is_digit c ≡ true → Numbers text p r (digits_at text start p 0 0) → Numbers text p r (version_number start (view text p))
+module _ (start : Mark) {text : List ℕ} {p : Place} {c : ℕ} (b : c ≡ get_or text p.at 0) where
+  pub number_some : {r : Result Numbered Refusal} → is_digit c ≡ true → Numbers text p r (digits_at text start p 0 0)
+      → Numbers text p r (version_number start (view text p))
   unfolding version_number ◌>>=◌ need
   number_some e h = rw (ascii_at text p.at c b digit_ascii ∙ e) h
 
-  pub number_none : is_digit c ≡ false → r ≡ Refused (record { number = 12; mark = start }) → Numbers text p r (version_number start (view text p))
+  pub number_none : is_digit c ≡ false → Numbers text p (Err (record { number = 12; mark = start })) (version_number start (view text p))
   unfolding version_number ◌>>=◌ need seen_number
-  number_none e f = rw (f, ascii_at text p.at c b digit_ascii ∙ e) (record { same = refl; ahead = tt })
+  number_none e = rw (ascii_at text p.at c b digit_ascii ∙ e) (record { same = refl; ahead = tt })
 
--- the second number
-module _ (start : Mark) (major : ℕ) {text : List ℕ} (p : Place) where
-  pub minor_none : {c : ℕ} {r : Reading} → c ≡ get_or text p.at 0 → (c ≡ dot → ⊥) → r ≡ reading.Refused (record { number = 13; mark = start })
-      → (used : ℕ) → ReaderAnswers text used r (minor_version start major (view text p))
-  unfolding minor_version ◌>>=◌ need
-  minor_none {c} b e f used = answers_refused f (rw (ne_char text p.at c b dot tt e))
-
-  module _ {n : Numbered} (a : CharAt text p.at dot 1)
-      (h : Numbers text (past p 1 (along p.mark)) n (version_number start (view text (past p 1 (along p.mark))))) where
-    turn : minor_version start major (view text p)
-        ≡ version_number start (view text (past p 1 (along p.mark))) >>= λ b. got (lexeme (VersionDirective major b.value) start b.place.mark b.place)
-    unfolding minor_version ◌>>=◌ need
-    turn = rw a.next
-
-    pub minor_refused : {f : Refusal} {r : Reading} → n ≡ Refused f → r ≡ reading.Refused f → (used : ℕ)
-        → ReaderAnswers text used r (minor_version start major (view text p))
-    unfolding ◌>>=◌
-    minor_refused e g used = answers_refused g (turn ∙ rw (number_refused h e))
-
-    pub minor_got : {v : ℕ} {q : Place} {r : Reading} → n ≡ Got v q
-        → r ≡ reading.Got (record { token = record { kind = kind.VersionDirective major v; start = start; end = q.mark }; next = q })
-        → (used : ℕ) → ReaderAnswers text used r (minor_version start major (view text p))
-    unfolding ◌>>=◌ laid text_size
-    minor_got {v} {q} e g used =
-        let k = number_ahead h e in
-        answers_got {l = lexeme (VersionDirective major v) start q.mark (view text q)} g (turn ∙ rw (number_got h e)) refl refl
-        (record { stands = k.0; some = omega (arith, k.1); size = omega arith })
-
--- the first
-module _ (start : Mark) {text : List ℕ} {p q : Place}
-    (m : Moves text p q (blanks_at (view text p))) where
+-- the first number, and what is behind it
+module _ (start : Mark) {text : List ℕ} {p q : Place} (m : Moves text p q (blanks_at (view text p))) (used : ℕ) where
   first_read : version_number start (blanks_at (view text p)) ≡ version_number start (view text q)
   first_read = ap (version_number start) (sym m.same)
 
-  pub version_refused : {n : Numbered} {f : Refusal} {r : Reading} → Numbers text q n (version_number start (view text q)) → n ≡ Refused f
-      → r ≡ reading.Refused f → (used : ℕ)
-      → ReaderAnswers text used r (version_directive start (view text p))
+  pub major_refused : {f : Refusal} → Numbers text q (Err f) (version_number start (view text q))
+      → ReaderAnswers text used (Err f) (version_directive start (view text p))
   unfolding version_directive ◌>>=◌
-  version_refused h e g used = answers_refused g (rw (first_read ∙ number_refused h e))
+  major_refused h = answers_refused refl (rw (first_read ∙ number_refused h))
 
-  pub version_got : {n : Numbered} {v : ℕ} {e : Place} {r : Reading} {used : ℕ}
-      → Numbers text q n (version_number start (view text q)) → n ≡ Got v e → ReaderAnswers text used r (minor_version start v (view text e))
-      → ReaderAnswers text used r (version_directive start (view text p))
-  unfolding version_directive minor_version ◌>>=◌
-  version_got h e d = rw (first_read ∙ number_got h e) d
+  module _ {a : Numbered} (h : Numbers text q (Ok a) (version_number start (view text q))) where
+    pub version_open : {c : ℕ} → c ≡ get_or text a.place.at 0 → (c ≡ dot → ⊥)
+        → ReaderAnswers text used (Err (record { number = 13; mark = start })) (version_directive start (view text p))
+    unfolding version_directive ◌>>=◌ need
+    version_open {c} b e = answers_refused refl (rw (first_read ∙ number_got h, ne_char text a.place.at c b dot tt e))
+
+    module _ (d : CharAt text a.place.at dot 1) where
+      abbrev second : Place
+      second = past a.place 1 (along a.place.mark)
+
+      turn : version_directive start (view text p)
+          ≡ version_number start (view text second) >>= λ b. got (lexeme (VersionDirective a.value b.value) start b.place.mark b.place)
+      unfolding version_directive ◌>>=◌ need
+      turn = rw (first_read ∙ number_got h, d.next)
+
+      pub minor_refused : {f : Refusal} → Numbers text second (Err f) (version_number start (view text second))
+          → ReaderAnswers text used (Err f) (version_directive start (view text p))
+      unfolding ◌>>=◌
+      minor_refused k = answers_refused refl (turn ∙ rw (number_refused k))
+
+      pub version_got : {b : Numbered} → Numbers text second (Ok b) (version_number start (view text second))
+          → ReaderAnswers text used
+          (Ok (record { token = record { kind = kind.VersionDirective a.value b.value; start = start; end = b.place.mark }; next = b.place }))
+          (version_directive start (view text p))
+      unfolding ◌>>=◌ laid text_size
+      version_got {b} k =
+          answers_got {l = lexeme (VersionDirective a.value b.value) start b.place.mark (view text b.place)} refl (turn ∙ rw (number_got k)) refl refl
+          (record { stands = k.ahead.0; some = omega (arith, k.ahead.1); size = omega arith })
 
 -- a version has no text
 pub no_texts : (before : List ℕ) (start : Mark) (p : definition.Place) → TextsIn before before (version_directive start p)

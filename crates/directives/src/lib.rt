@@ -24,6 +24,11 @@ mod reserved;
 mod tag;
 mod version;
 
+// The names that mean something.
+const YAML: &[u8] = b"YAML";
+
+const TAG: &[u8] = b"TAG";
+
 // By its name, which ends at p: YAML, TAG, any other.
 fn directive_of(
     text: &[u8],
@@ -35,11 +40,14 @@ fn directive_of(
     requires { NameAt text.now start used p }
     ensures { Reads text.now out.old out.new used result (directive_of start (name_in text.now start).text (view text.now p)) }
 {
-    match &text[1..p.at] {
-        b"YAML" => version_directive(text, start, p),
-        b"TAG" => tag_directive(text, start, p, used, out),
-        _ => Ok(reserved_directive(text, start, p, used, out)),
+    let name = &text[1..p.at];
+    if name == YAML {
+        return version_directive(text, start, p);
     }
+    if name == TAG {
+        return tag_directive(text, start, p, used, out);
+    }
+    Ok(reserved_directive(text, start, p, used, out))
 }
 
 // The rest of a directive's line, and past it. 15: no comment or break.

@@ -30,7 +30,7 @@ fn version_digits(text: &[u8], start: Mark, from: Place) -> Result<Numbered, Ref
 {
     let mut place = from;
     let mut value: u32 = 0;
-    for _digits in 0..9 {
+    for _digits in 0..9u32 {
         let c = byte(text, place.at) as u32;
         if !is_digit(c) {
             return Ok(Numbered { value, place });

@@ -1,19 +1,20 @@
 -- The blanks and comment are read, or refused, as the definition does; then only a break or the end may stand there.
-use mathlib.Core.Path.{◌∙◌, refl, sym}
+use Rattle.std.proofs.Common.{refl, sym}
+use Rattle.std.proofs.lemmas.Result.{err_from_is_err_and}
 use Rattle.gaps.specs.Answers.{reached_to}
 use Rattle.directives.proofs.Lines.{ends_open, ends_past, ends_refused}
 use Rattle.directives.proofs.line_end.Goals as goal
 
-pub skip_break-requires : goal.skip_break-requires
-skip_break-requires c = (reached_to c.blanks_and_comment-r.ensures c.in-To.is).1
+pub returns-in_err-e : goal.returns-in_err-e
+returns-in_err-e c =
+    let p = err_from_is_err_and c.from_residual.result c.from_residual.ensures.1 in
+    rw (p.1, p.2) (ends_refused _ c.in_err-e.ensures)
 
-pub returns-then-is_breakz : goal.returns-then-is_breakz
-returns-then-is_breakz c =
-    ends_past _ c.blanks_and_comment-r.ensures c.in-To.is c.look.ensures c.requires (sym c.is_breakz.ensures ∙ c.if-is_breakz.true)
-    c.skip_break.ensures refl
+pub returns-then-not-is_breakz : goal.returns-then-not-is_breakz
+returns-then-not-is_breakz c = rw c.refuse.ensures (ends_open _ c.in_ok-e.ensures c.look.ensures (sym c.if-not-is_breakz.ensures))
 
-pub returns-in-Refused : goal.returns-in-Refused
-returns-in-Refused c = ends_refused _ c.blanks_and_comment-r.ensures c.in-Refused.is refl
+pub skip_break-next-requires : goal.skip_break-next-requires
+skip_break-next-requires c = (reached_to c.in_ok-e.ensures refl).1
 
-pub returns-else-is_breakz : goal.returns-else-is_breakz
-returns-else-is_breakz c = ends_open _ c.blanks_and_comment-r.ensures c.in-To.is c.look.ensures (sym c.is_breakz.ensures ∙ c.if-is_breakz.false) c.refuse.ensures
+pub returns : goal.returns
+returns c = ends_past _ c.in_ok-e.ensures c.look.ensures c.requires (sym c.if-not-is_breakz.ensures) c.skip_break-next.ensures

@@ -1,22 +1,25 @@
 -- What is left to read and write from a word on gives all parameters.
-use mathlib.Core.Path.{refl}
-use Rattle.directives.proofs.Joining.{joining_done, joining_from, joining_more, joining_small, joining_start}
-use borrow.Author.Rules.{rules}
+use Rattle.std.proofs.Common.{refl, rules, sym}
+use Rattle.directives.proofs.Joining.{joining_done, joining_from, joining_more, joining_small, joining_start, word_none, word_some}
+use Rattle.directives.proofs.Spans.{span_long}
 use Rattle.directives.proofs.reserved.read_parameters.Goals as goal
 
-pub loop-e-init : goal.loop-e-init
-loop-e-init c = joining_start _ c.skip_blanks-p.ensures
+pub loop-word-init : goal.loop-word-init
+loop-word-init c = joining_start _ c.skip_blanks-place.ensures
 
-pub returns-then-to-at : goal.returns-then-to-at
-returns-then-to-at c = joining_from c.skip_blanks-p.ensures (joining_done c.loop-e.invariant c.run_of-e.ensures c.if-to-at.true)
+pub returns-then-is_empty : goal.returns-then-is_empty
+returns-then-is_empty c =
+    joining_from c.skip_blanks-place.ensures
+    (joining_done c.loop-word.invariant c.run_of-e.ensures (word_none c.loop-word.invariant c.run_of-e.ensures (sym c.if-is_empty.ensures)))
 
-pub overflow_add-k : goal.overflow_add-k
-overflow_add-k c =
-    let h = joining_small c.loop-e.invariant c.run_of-e.ensures c.put_space-k.ensures.1 in
+pub overflow_add-count : goal.overflow_add-count
+overflow_add-count c =
+    let h = joining_small c.loop-word.invariant c.run_of-e.ensures c.put_space-count.ensures.1 in
     let m = c.requires.1 in
-    search rules
+    rw (span_long c.run_of-e.ensures) (search rules)
 
-pub loop-e-preserved : goal.loop-e-preserved
-loop-e-preserved c =
-    joining_more c.loop-e.invariant c.run_of-e.ensures c.if-to-at.false c.put_space-k.ensures.0 c.put_space-k.ensures.1 c.copy.ensures refl
-    c.skip_blanks-p-in-loop-e.ensures
+pub loop-word-preserved : goal.loop-word-preserved
+loop-word-preserved c =
+    rw (span_long c.run_of-e.ensures)
+    (joining_more c.loop-word.invariant c.run_of-e.ensures (word_some c.loop-word.invariant c.run_of-e.ensures (sym c.if-is_empty.ensures))
+    c.put_space-count.ensures.0 c.put_space-count.ensures.1 c.copy.ensures refl c.skip_blanks-place-in-loop-word.ensures)

@@ -3,8 +3,8 @@ use lib.ListN.{length}
 use Rattle.directives.proofs.Joining.{Joining}
 use Rattle.directives.proofs.reserved.read_parameters.Given as goal
 
-abbrev pub invariant-loop-e : goal.invariant-loop-e
-invariant-loop-e l = Joining l.text l.initial.out l.initial.p l.n l.out l.p l.k
+abbrev pub invariant-loop-word : goal.invariant-loop-word
+invariant-loop-word l = Joining l.text l.initial.out l.initial.place l.n l.out l.place l.count
 
-abbrev pub decreases-loop-e : goal.decreases-loop-e
-decreases-loop-e l = length l.text - l.p.at
+abbrev pub decreases-loop-word : goal.decreases-loop-word
+decreases-loop-word l = length l.text - l.place.at

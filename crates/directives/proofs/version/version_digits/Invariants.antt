@@ -1,10 +1,5 @@
-use Prim.Native.Nat.{◌-◌}
-use lib.ListN.{length}
 use Rattle.directives.proofs.Versions.{Counting}
 use Rattle.directives.proofs.version.version_digits.Given as goal
 
-abbrev pub invariant-loop-p : goal.invariant-loop-p
-invariant-loop-p l = Counting l.text l.start l.initial.p l.p l.v l.n
-
-abbrev pub decreases-loop-p : goal.decreases-loop-p
-decreases-loop-p l = length l.text - l.p.at
+abbrev pub invariant-loop-digits : goal.invariant-loop-digits
+invariant-loop-digits l = Counting l.text l.start l.initial.place l.place l.value l._digits

@@ -1,16 +1,40 @@
--- The first number is read behind the blanks, and the rest behind it.
-use mathlib.Core.Path.{refl}
-use native.Mathlib.Omega.{arith}
-use Rattle.directives.proofs.Versions.{number_ahead, version_got, version_refused}
+-- The first number is read behind the blanks, and the second behind a dot.
+use Rattle.std.proofs.Common.{arith, rules}
+use Rattle.std.proofs.lemmas.Result.{err_from_is_err_and}
+use Rattle.yaml_text.specs.Char.{dot}
+use Rattle.chars.specs.Bytes.{CharAt, eq_char}
+use Rattle.chars.specs.Places.{small, stands_along}
+use Rattle.directives.proofs.Versions.{major_refused, minor_refused, version_got, version_open}
 use Rattle.directives.proofs.version.version_directive.Goals as goal
+use Rattle.directives.proofs.version.version_directive.Goals.{Else-byte-ne46}
 
-pub minor_version-requires : goal.minor_version-requires
-minor_version-requires c =
-    let k = number_ahead c.version_number-major.ensures c.in-Got.is in
-    (k.0, omega (arith, k.1, c.skip_blanks.ensures.onward, c.requires.1))
+-- the dot
+dotted : (c : Else-byte-ne46) → CharAt c.args.text.now c.in_ok-major.major.place.at dot 1
+dotted c = eq_char _ _ _ c.byte.ensures dot tt c.if-byte-ne46.false
 
-pub returns-in-Refused : goal.returns-in-Refused
-returns-in-Refused c = version_refused _ c.skip_blanks.ensures c.version_number-major.ensures c.in-Refused.is refl
+pub returns-in_err-major : goal.returns-in_err-major
+returns-in_err-major c =
+    let p = err_from_is_err_and c.from_residual.result c.from_residual.ensures.1 in
+    λ used. rw (p.1, p.2) (major_refused _ c.skip_blanks.ensures used c.in_err-major.ensures)
 
-pub returns-in-Got : goal.returns-in-Got
-returns-in-Got c = λ used. version_got _ c.skip_blanks.ensures c.version_number-major.ensures c.in-Got.is (c.minor_version.ensures used)
+pub returns-then-byte-ne46 : goal.returns-then-byte-ne46
+returns-then-byte-ne46 c = λ used. rw c.refuse.ensures (version_open _ c.skip_blanks.ensures used c.in_ok-major.ensures c.byte.ensures c.if-byte-ne46.true)
+
+pub skip_blank-requires : goal.skip_blank-requires
+skip_blank-requires c = small c.in_ok-major.ensures.ahead.0 (search rules)
+
+pub version_number-requires-2 : goal.version_number-requires-2
+version_number-requires-2 c =
+    let d = dotted (goal.at.version_number-requires-2 c).Else-byte-ne46 in
+    rw c.skip_blank.ensures (stands_along c.in_ok-major.ensures.ahead.0 1 1 (omega arith) d.within)
+
+pub returns-in_err-minor : goal.returns-in_err-minor
+returns-in_err-minor c =
+    let p = err_from_is_err_and c.from_residual-in_err-minor.result c.from_residual-in_err-minor.ensures.1 in
+    let d = dotted (goal.at.returns-in_err-minor c).Else-byte-ne46 in
+    λ used. rw (p.1, p.2) (minor_refused _ c.skip_blanks.ensures used c.in_ok-major.ensures d (rw c.skip_blank.ensures at c.in_err-minor.ensures))
+
+pub returns : goal.returns
+returns c =
+    let d = dotted (goal.at.returns c).Else-byte-ne46 in
+    λ used. rw c.new.ensures (version_got _ c.skip_blanks.ensures used c.in_ok-major.ensures d (rw c.skip_blank.ensures at c.in_ok-minor.ensures))
