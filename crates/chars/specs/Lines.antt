@@ -109,3 +109,8 @@ module _ {text : List ℕ} {p : Place} (h : Stands text p) where
       let r : Reach text p.at n (p.at + n) = rw e (break_reach text p.at) in
       let w = reach_within r h.within in
       moves_as (moves_past h n n (new_line n p.mark) r (stands_line h n (omega arith) w.0)) (rw (← e, ne_eqb n 0 f))
+
+-- the cases of a break, and of a marker
+pub ruleset breaks = (break_lf, break_cr, break_crlf, break_none)
+
+pub ruleset markers = (marker_column, marker_more, marker_other)

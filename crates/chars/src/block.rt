@@ -60,6 +60,7 @@ fn one_of<C: ByteClass>(b: u8) -> u8
 }
 
 // How many of at most 64 bytes are of the class.
+#[tactic(auto, using(crate::specs::Each::count_more, crate::specs::Each::count_none, crate::specs::Each::one_most))]
 fn count<C: ByteClass>(s: &[u8]) -> u8
     requires { length s.now ≤ 64 }
     ensures { result ≡ count_of C.test s.now }

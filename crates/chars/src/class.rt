@@ -68,6 +68,7 @@ pub fn is_hex(c: u32) -> bool
 }
 
 // The value of a hexadecimal digit.
+#[tactic(auto, using(crate::proofs::Laws::hex_least, crate::proofs::Laws::hex_small), unfolding(yaml_text::specs::Class::as_hex, yaml_text::specs::Class::is_digit))]
 pub fn as_hex(c: u32) -> u32
     requires { is_hex c ≡ true }
     ensures { result ≡ as_hex c }
@@ -112,6 +113,7 @@ pub fn is_anchor_char(c: u32) -> bool
 }
 
 // Letters, digits and - # ; / ? : @ & = + $ , _ . ! ~ * ' ( ) [ ] %, by ranges.
+#[tactic(auto, using(crate::proofs::Laws::uri_same), unfolding(crate::proofs::Laws::uri_ranges))]
 pub fn is_uri_char(c: u32) -> bool
     ensures { result ≡ is_uri c }
 {

@@ -117,6 +117,7 @@ impl Place {
 }
 
 // How many characters the break at a place takes: none, where no break stands there. A count as in the definition, since readers move on by it.
+#[tactic(auto, using(crate::specs::Lines::breaks))]
 pub fn break_length(s: &[u8], at: usize) -> u32
     ensures { result ≡ break_length (chars (drop at s.now)) }
 {
@@ -131,6 +132,7 @@ pub fn break_length(s: &[u8], at: usize) -> u32
 }
 
 // Past the break, if one stands here.
+#[tactic(auto, using(crate::specs::Lines::skip_none, crate::specs::Lines::break_few))]
 pub fn skip_break(s: &[u8], p: Place) -> Place
     requires { Stands s.now p }
     ensures { Moves s.now p result (skip_break (view s.now p)) }
@@ -144,6 +146,7 @@ pub fn skip_break(s: &[u8], p: Place) -> Place
 }
 
 // Whether `---` or `...` stands here, at column 0 and before blank, break or end.
+#[tactic(auto, using(crate::specs::Lines::markers))]
 pub fn is_marker(s: &[u8], p: Place) -> bool
     ensures { result ≡ is_marker p.mark (chars (drop p.at s.now)) }
 {

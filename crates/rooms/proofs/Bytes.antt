@@ -7,6 +7,7 @@ use lib.ListN.{length}
 use lib.Seq.{sets}
 use borrow.Author.Tests.{le-ltb, lt-ltb}
 use Rattle.yaml_text.specs.Utf8.{char_bytes}
+use Rattle.yaml_text.specs.Utf8Laws.{bytes1}
 
 pub two_bytes : (c : ℕ) → 0x80 ≤ c → c < 0x800 → char_bytes c ≡ (192 + c / 64) ∷ (128 + c % 64) ∷ []
 unfolding char_bytes
@@ -24,3 +25,5 @@ four_bytes c h = rw (le-ltb c 0x80 (omega arith), le-ltb c 0x800 (omega arith), 
 -- a text that was written, of a known character
 pub wrote : (l o : List ℕ) (n c : ℕ) (t : List ℕ) → char_bytes c ≡ t → o ≡ sets l n t → (o ≡ sets l n (char_bytes c)) × (n + length t ≡ n + length (char_bytes c))
 wrote l o n c t e f = rw e (f, refl)
+
+pub ruleset by_size = (bytes1, two_bytes, three_bytes, four_bytes, wrote)

@@ -1,5 +1,5 @@
 -- A part of a room that was written over with the beginning of a text holds what `sets` stores.
-use Rattle.std.proofs.Common.{append_assoc, inl, inr, ◌∙◌, ◌⊎◌, ◌≡◌, ℕ, ◌+◌, ◌-◌, ◌<◌, ◌≤◌, List, ◌++◌, arith, ap, drop, drop-drop, length, length-take-le, ltb, ltb-false, ltb-true, min, sym, take, take_all}
+use Rattle.std.proofs.Common.{append_assoc, inl, inr, ◌∙◌, ◌⊎◌, ◌≡◌, ℕ, ◌+◌, ◌-◌, ◌<◌, ◌≤◌, List, ◌++◌, arith, drop, drop-drop, length, length-take-le, ltb, ltb-false, ltb-true, min, sym, take}
 use Rattle.std.proofs.lemmas.List.Edits.{sets, sets-eq}
 use Rattle.yaml_text.specs.Test.{by_test}
 use Rattle.rooms.specs.Room.{sets_fit}

@@ -23,6 +23,7 @@ pub fn put(out: &mut [u8], n: usize, b: u8)
 }
 
 // Stores the items of s from n on, as far as there is room.
+#[tactic(auto, using(crate::proofs::Copied::copied, crate::specs::Room::sets_out))]
 pub fn copy<T: Copy>(out: &mut [T], n: usize, s: &[T])
     ensures { out.new ≡ sets out.old n s.now }
 {
@@ -40,6 +41,7 @@ fn put_tail(out: &mut [u8], n: usize, v: u32)
 }
 
 // Stores the bytes of a character from n on; where the next one goes.
+#[tactic(auto, using(crate::proofs::Bytes::by_size))]
 pub fn put_char(out: &mut [u8], n: usize, c: u32) -> usize
     requires { (n < 2 ^ 62) × (c < 0x110000) }
     ensures { (out.new ≡ sets out.old n (char_bytes c)) × (result ≡ n + length (char_bytes c)) }

@@ -12,7 +12,7 @@ use Rattle.yaml_text.specs.declared.Decoded.TheVariants.{Char, End, Ill}
 use Rattle.yaml_text.specs.Class.{peek}
 use Rattle.yaml_text.specs.Utf8.{by_len, chars, first, four, len_of, three, two}
 use Rattle.yaml_text.specs.Test.{by_pick, by_test}
-use Rattle.yaml_text.specs.Utf8Laws.{by_len_four, chars_end, chars_none, first_at}
+use Rattle.yaml_text.specs.Utf8Laws.{by_len_four, chars_end, chars_none, first_at, first_past}
 use Rattle.yaml_text.proofs.Utf8Laws.{chars_next}
 use Rattle.yaml_text.specs.ByteLaws.{first_ascii}
 
@@ -61,3 +61,9 @@ look_none l e = ap (λ (m : List ℕ). peek m 0) (sym (chars_none l e))
 
 pub look_end : (l : List ℕ) → first l ≡ End → 0 ≡ peek (chars l) 0
 look_end l e = ap (λ (m : List ℕ). peek m 0) (sym (chars_end l e))
+
+-- the cases of a character, by its lead byte
+pub ruleset by_lead = (case0, case1, case2, case3, case4)
+
+-- and what a look at it sees
+pub ruleset looks = (plain_at, look_char, look_none, look_end, first_past)

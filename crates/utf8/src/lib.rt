@@ -76,6 +76,7 @@ pub fn four_bytes(a: u8, b: u8, c: u8, d: u8) -> Decoded
 }
 
 // What stands at a place within the text.
+#[tactic(auto, using(crate::proofs::Laws::by_lead))]
 fn long_char(s: &[u8], at: usize) -> Decoded
     requires { at < length s.now }
     ensures { result ≡ first (drop at s.now) }
@@ -95,6 +96,7 @@ fn long_char(s: &[u8], at: usize) -> Decoded
 }
 
 // What stands at a place: a character with its length, ill-formed bytes, or the end.
+#[tactic(auto, using(crate::proofs::Laws::looks))]
 pub fn char_at(s: &[u8], at: usize) -> Decoded
     ensures { result ≡ first (drop at s.now) }
 {
@@ -112,6 +114,7 @@ pub fn char_at(s: &[u8], at: usize) -> Decoded
 }
 
 // The character at a place; 0 where none begins, as in the definition's `peek`: classes of characters hold the end of the text as 0.
+#[tactic(auto, using(crate::proofs::Laws::looks))]
 pub fn look(s: &[u8], at: usize) -> u32
     ensures { result ≡ peek (chars (drop at s.now)) 0 }
 {

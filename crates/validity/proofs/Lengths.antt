@@ -29,3 +29,5 @@ module _ (s : List ℕ) (at a : ℕ) (h : at < length s) (is : a ≡ get_or s at
 
   pub len_plain : (a ≡ 0 → ⊥) → a < 128 → Some 1 ≡ good_len (first (drop at s))
   len_plain z k = good_char (first (drop at s)) a 1 (sym (plain_at s at a h is k)) z
+
+pub ruleset lengths = (good_char, good_nul, len_nul, len_plain)

@@ -1,5 +1,5 @@
 -- What the inner functions of the validity pass answer.
-use Rattle.std.specs.Prelude.{◌+◌, ◌-◌, ◌<◌, ◌≤◌, ℕ, Bool, false, true, List, Option, None, Some, Result, Ok, Err, ◌≡◌, drop}
+use Rattle.std.specs.Prelude.{◌+◌, ◌<◌, ◌≤◌, ℕ, Bool, false, true, List, Option, None, Some, Result, Ok, Err, ◌≡◌, drop}
 use Rattle.yaml_text.specs.declared.Decoded.{Decoded}
 use Rattle.yaml_text.specs.declared.Decoded.TheVariants.{Char, End, Ill}
 use Rattle.yaml_text.specs.Pick.{pick}

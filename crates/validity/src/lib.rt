@@ -17,6 +17,7 @@ use utf8::{byte, char_at, four_bytes, lead_len, three_bytes, two_bytes};
 use yaml_text::{Decoded, Refusal};
 
 // How many bytes a decoded character other than NUL takes.
+#[tactic(auto, using(crate::proofs::Lengths::lengths))]
 fn good_len(d: Decoded) -> Option<usize>
     ensures { result ≡ good_len d }
 {
@@ -27,6 +28,7 @@ fn good_len(d: Decoded) -> Option<usize>
 }
 
 // char_len where the byte is from 128 up. By branches on what it leads, so that the next turn does not wait for the code point.
+#[tactic(auto, using(utf8::proofs::Laws::by_lead, utf8::proofs::Laws::lone))]
 fn long_len(s: &[u8], at: usize) -> Option<usize>
     requires { (at < length s.now) × (128 ≤ get_or s.now at 0) }
     ensures { result ≡ good_len (first (drop at s.now)) }
@@ -42,6 +44,7 @@ fn long_len(s: &[u8], at: usize) -> Option<usize>
 }
 
 // How many bytes the character other than NUL takes that begins at a place.
+#[tactic(auto, using(crate::proofs::Lengths::lengths))]
 fn char_len(s: &[u8], at: usize) -> Option<usize>
     requires { at < length s.now }
     ensures { result ≡ good_len (first (drop at s.now)) }
@@ -54,6 +57,7 @@ fn char_len(s: &[u8], at: usize) -> Option<usize>
 }
 
 // Goes on by characters from `at` until `upto`, or stops before it where no character other than NUL begins.
+#[tactic(auto, using(crate::specs::Sound::past, crate::specs::Sound::stops))]
 fn go_slow(s: &[u8], at: usize, upto: usize) -> usize
     requires { (at < upto) × (upto ≤ length s.now) }
     ensures { PassesTo s.now upto at result }
@@ -69,6 +73,7 @@ fn go_slow(s: &[u8], at: usize, upto: usize) -> usize
 }
 
 // Whether the block from `at` to `e` is ASCII without NUL. Where its first byte is not, the others are not looked at.
+#[tactic(auto, using(chars::specs::Each::first_out, crate::proofs::Blocks::high))]
 fn is_ascii(s: &[u8], at: usize, e: usize) -> bool
     requires { (at < e) × (e ≤ length s.now) × (e ≤ at + 64) }
     ensures { result ≡ all_of low (take (e - at) (drop at s.now)) }
@@ -126,6 +131,7 @@ fn first_refusal(s: &[u8]) -> Result<(), Refusal>
 }
 
 // Whether a text may be scanned: refusal 2 or 3, whichever stands earlier.
+#[tactic(auto, using(crate::proofs::Soundness::passes_sound))]
 pub fn check_text(s: &[u8]) -> Result<(), Refusal>
     requires { length s.now ≤ 1_048_576 }
     ensures { result ≡ checked (decode 0 origin s.now) }

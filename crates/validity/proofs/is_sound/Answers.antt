@@ -1,19 +1,15 @@
 -- The invariant: what is left passes just where the whole does.
-use mathlib.Core.Path.{◌∙◌, refl, sym}
+use mathlib.Core.Path.{◌∙◌, sym}
 use native.Mathlib.Omega.{arith}
 use Rattle.validity.proofs.Soundness.{Went, sound_past, went}
 use Rattle.chars.specs.Ascii.{low}
 use Rattle.chars.specs.Each.{each_block}
 use Rattle.validity.proofs.Blocks.{sound_block}
-use borrow.Author.Rules.{rules}
 use Rattle.validity.proofs.is_sound.Goals as goal
 use Rattle.validity.proofs.is_sound.Goals.{After-go_slow-i}
 
 slow : (c : After-go_slow-i) → Went c.args.s.now c.loop-at.at c.min-e.result c.go_slow-i.result
 slow c = went (omega arith) (omega (arith, c.min-e.ensures)) c.go_slow-i.ensures
-
-pub loop-at-init : goal.loop-at-init
-loop-at-init c = (search rules, refl)
 
 pub loop-at-preserved-then-is_ascii : goal.loop-at-preserved-then-is_ascii
 loop-at-preserved-then-is_ascii c =
@@ -26,9 +22,6 @@ pub returns-then-i-e : goal.returns-then-i-e
 returns-then-i-e c =
     let w = slow (goal.at.returns-then-i-e c).After-go_slow-i in
     sym (c.loop-at.invariant.1 ∙ w.same ∙ w.short c.if-i-e.true)
-
-pub loop-at-smaller : goal.loop-at-smaller
-loop-at-smaller c = let w = slow (goal.at.loop-at-smaller c).After-go_slow-i in omega (arith, w, c.min-e.ensures)
 
 pub loop-at-preserved : goal.loop-at-preserved
 loop-at-preserved c =
