@@ -1,5 +1,5 @@
 -- Turns of the loops over gaps, on the characters at a place.
-use Prim.Native.Nat.{◌+◌, ◌-◌, ◌<◌, ◌^◌, ◌≤◌, suc, ℕ}
+use Prim.Native.Nat.{◌+◌, ◌-◌, ◌<◌, ◌≤◌, suc, ℕ}
 use mathlib.Core.Bool.{Bool, ◌&&◌, ◌||◌, false, not, or_assoc, or-false, or_self, true}
 use mathlib.Core.List.{List, [], ◌∷◌}
 use mathlib.Core.Path.{◌∙◌, ◌≡◌, ap, refl, sym}
@@ -18,7 +18,6 @@ use Rattle.yaml_text.specs.Mark.{Run, along, along_by, before_run, here, look, n
 use Rattle.yaml_text.specs.Mark as definition
 use Rattle.yaml_text.specs.MarkLaws.{over_along, over_break, over_crlf}
 use Rattle.yaml_text.specs.Refusal.{Read, got, refused}
-use Rattle.yaml_text.specs.Pick.{pick}
 use Rattle.yaml_text.specs.Test.{by_pick, by_test, true_false}
 use Rattle.yaml_text.specs.Utf8.{chars}
 use Rattle.yaml_lexeme.specs.declared.Before.{Before}
@@ -80,9 +79,6 @@ module _ {text : List ℕ} {p : Place} {n : ℕ} (h : Stands text p) (e : n ≡ 
   there : Row is_blank text p.at n
   there = rw e (row is_blank (λ b f. (ascii_low blank_ascii b f).1) text p.at)
 
-  pub blanks_few : n ≤ 2 ^ 20
-  blanks_few = let w = reach_within (row_reach there) h.within in omega (arith, w, h)
-
   pub blanks_past : {r : Place} → r ≡ past p n (along_by n p.mark) → Moves text p r (blanks p.mark (chars (drop p.at text)))
   unfolding is_blank
   blanks_past f =
@@ -113,9 +109,6 @@ line_some {s} {p} {q} {c} {n} x e w =
 
 -- over the characters of one byte in a row
 module _ {text : List ℕ} {p : Place} {n : ℕ} (e : n ≡ low_run (drop p.at text)) where
-  pub low_few : Stands text p → n ≤ 2 ^ 20
-  low_few h = let w = reach_within (row_reach (low_row text p.at)) h.within in omega (arith, w, h)
-
   pub low_spans : {start q : Place} {x : Run} → Spanning text start p x (line p.mark (chars (drop p.at text)))
       → q ≡ past p n (along_by n p.mark) → Spanning text start q x (line q.mark (chars (drop q.at text)))
   low_spans w f = let r : Row is_low text p.at n = rw e (low_row text p.at) in rw f (spans_along w n n (row_reach r) (line_row r p.mark))
@@ -259,9 +252,6 @@ unfolding gap_turn is_break is_blank on_hash
 gap_wrong {s} {at} flow a b m x e = rw (x.next, e) (gap_turned flow a AfterText m '#' (chars (drop (at + 1) s)))
 
 -- on the way no comment is open
-pub open_start : (leads : Bool) → Open (pick leads Leading AfterText)
-open_start leads = by_pick Open leads Leading AfterText tt tt
-
 pub open_blank : (flow : Bool) (m : Mark) (c : ℕ) (b : Before) → Open b → Open (on_blank flow m c b)
 unfolding on_blank
 open_blank flow m c Leading h = by_pick Open (not flow && eqb c tab) (Tabbed m) Leading tt tt

@@ -163,7 +163,7 @@ fn past_some_spaces(text: &[u8], at: usize) -> usize
     past_blocks::<Space>(text, at)
 }
 
-// Where the spaces end that begin at a place.
+// Where the spaces end that begin at a place. A turn passes one byte or a row of blocks, so no iterator takes its steps.
 fn past_spaces(text: &[u8], start: usize) -> usize
     requires { start ≤ length text.now }
     ensures { result ≡ start + space_run (drop start text.now) }
@@ -176,7 +176,13 @@ fn past_spaces(text: &[u8], start: usize) -> usize
 }
 
 // The gap that begins here.
-pub fn skip_gap(text: &[u8], start: Place, flow: bool, allowed: bool, leads: bool) -> Result<Gap, Refusal>
+pub fn skip_gap(
+    text: &[u8],
+    start: Place,
+    flow: bool,
+    allowed: bool,
+    leads: bool,
+) -> Result<Gap, Refusal>
     requires { Stands text.now start }
     ensures { Skips text.now start result (skip_gap flow allowed (pick leads Leading AfterText) start.mark (chars (drop start.at text.now))) }
 {

@@ -129,7 +129,7 @@ fn behind(start: Place, end: usize, extra: usize) -> Place
 }
 
 // The place behind the last character of the text that goes on at `start`, which no blank stands before.
-// The loop counts bytes: one line's marks follow from them. Blocks are looked for once: to look at each byte would cost words more than it saves.
+// The loop counts bytes by hand: a turn takes one, or all of a character, and one line's marks follow from them. Blocks are looked for once: to look at each byte would cost words more than it saves.
 fn text_end(text: &[u8], start: Place, flow: bool) -> Place
     requires { Stands text.now start }
     ensures { Spans text.now start result (plain_text flow false start.mark (chars (drop start.at text.now))) }

@@ -1,9 +1,8 @@
 -- Which turn it is, told by the character at the place.
-use Prim.Native.Nat.{◌+◌, ◌<◌, ◌^◌, ◌≤◌, ℕ}
+use Prim.Native.Nat.{◌+◌, ℕ}
 use mathlib.Core.Bool.{Bool, ◌&&◌, and_comm, false, not, true}
 use mathlib.Core.List.{List, []}
 use mathlib.Core.Path.{◌∙◌, ◌≡◌, refl, sym}
-use native.Mathlib.Omega.{arith}
 use lib.Dec.{eqb}
 use lib.ListN.{drop, get_or}
 use Rattle.std.specs.Prelude.{⊤}
@@ -20,12 +19,10 @@ use Rattle.yaml_lexeme.specs.Quoted.{folds_to, quoted_run}
 use Rattle.chars.specs.Ascii.{ascii_low, blank_ascii, break_ascii}
 use Rattle.chars.specs.Bytes.{CharAt, ascii_at, eq_at, eq_char}
 use Rattle.gaps.specs.Breaks.{break_at}
-use Rattle.quoted.specs.declared.fold.Mode.{Mode}
-use Rattle.quoted.specs.declared.fold.Mode.TheVariants.{Blanks, Chars, Escaped, Folded, Joined}
 use Rattle.quoted.specs.declared.turns.Quote.{Quote}
 use Rattle.quoted.specs.declared.turns.Progress.{Progress}
 use Rattle.quoted.specs.declared.turns.Turned.{Turned}
-use Rattle.quoted.specs.Modes.{PutsKept, line_held, mode_of, owed}
+use Rattle.quoted.specs.Modes.{PutsKept, line_held, mode_of}
 use Rattle.quoted.specs.Texts.{quote_by, special, text_char}
 use Rattle.quoted.specs.Advance.{Advances, Sound, TextAt, blank_turned, break_turned, quote_of, text_turn}
 use Rattle.quoted.proofs.Kept.{text_right, text_wrong}
@@ -100,14 +97,3 @@ module _ {text : List ℕ} {q : Quote} {t : Progress} {r : Result Turned Refusal
         let x = text_right (quote_of q) m w.char cs text at t.mode (sym (rw w.is.next at e) ∙ z) in
         turns_from (folds_to b) (rw w.is.next (take_behind (quote_of q) b m w.char cs w.no_blank w.no_break))
         (rw w.is.next (run_folded (quote_of q) b m w.char cs (folds_to b) w.no_blank w.no_break x)) f.puts refl g
-
--- no count of breaks wraps
-least_owed : (at : ℕ) (mode : Mode) → owed 0 mode ≤ owed at mode
-least_owed at Chars = omega arith
-least_owed at (Blanks from) = omega arith
-least_owed at (Folded k) = omega arith
-least_owed at Escaped = omega arith
-least_owed at (Joined k) = omega arith
-
-pub owed_small : {text : List ℕ} {t : Progress} → Sound text t → owed 0 t.mode < 2 ^ 31
-owed_small {t = t} s = let l = least_owed t.place.at t.mode in omega (arith, s.few, s.short, s.stands.within)

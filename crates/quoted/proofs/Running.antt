@@ -1,5 +1,5 @@
 -- The loop over the turns, from behind the opening quote to the scalar's end.
-use Prim.Native.Nat.{◌<◌, ◌≤◌, ℕ}
+use Prim.Native.Nat.{◌≤◌, ℕ}
 use mathlib.Core.List.{List}
 use mathlib.Core.Path.{◌∙◌, ◌≡◌, ap, refl}
 use native.Mathlib.Omega.{arith}
@@ -41,10 +41,6 @@ module _ {text : List ℕ} {q : Quote} {before out next : List ℕ} {t : Progres
   pub running_more : {u : Progress} → r ≡ Ok (Goes u) → length next ≡ length out → Running text q before next u
   unfolding led_to
   running_more e l = let k = rw e at h in record { sound = k.onward.0; same = l ∙ w.same; whole = w.whole ∙ k.same }
-
-  -- each turn reads a byte
-  pub running_less : {u : Progress} → r ≡ Ok (Goes u) → (t.place.at < u.place.at) × (u.place.at ≤ length text)
-  running_less e = let k = rw e at h in (k.onward.1, k.onward.0.stands.within)
 
   pub running_closed : {u : Written} → r ≡ Ok (Closes u) → RunEnds text q before next (Ok u)
   unfolding led_to

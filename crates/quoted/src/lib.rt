@@ -75,7 +75,13 @@ fn after_quote(text: &[u8], q: Quote, flow: bool, w: Written, used: u32) -> Resu
 }
 
 // The scalar with what follows it; a refusal leaves in the lent bytes what was written before it.
-fn read_scalar(text: &[u8], q: Quote, flow: bool, used: u32, out: &mut [u8]) -> Result<Lexeme, Refusal>
+fn read_scalar(
+    text: &[u8],
+    q: Quote,
+    flow: bool,
+    used: u32,
+    out: &mut [u8],
+) -> Result<Lexeme, Refusal>
     requires { Indicated text.now q.start used }
     ensures { Reads text.now out.old out.new used result (scan_flow_scalar flow q.single q.indent (view text.now (first_at q.start))) }
 {

@@ -23,7 +23,8 @@ use rooms::{copy, put, put_char};
 use utf8::{byte, char_at};
 use yaml_text::{Decoded, Mark, Refusal};
 
-// What holds for the whole scalar.
+// What holds for the whole scalar. The text and the lent bytes stay beside it: with them in a struct each promise would name their fields, entry and
+// exit, in place of `text.now`, `out.old` and `out.new`.
 #[derive(Clone, Copy)]
 pub struct Quote {
     pub single: bool,
@@ -41,7 +42,7 @@ pub struct Progress {
     pub mode: Mode,
 }
 
-// A turn leads to the next one, or to the scalar's end: its text, and the place behind the closing quote.
+// A turn leads to the next one, or to the scalar's end: its text, and the place behind the closing quote. Neither is an error, so it is no `Result`.
 #[derive(Clone, Copy)]
 pub enum Turned {
     Goes(Progress),

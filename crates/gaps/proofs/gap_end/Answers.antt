@@ -17,9 +17,9 @@ returns c =
     λ flow. skips_to refl c.requires.0
     (elim c.match-b.branch [
       | in-Tabbed+in_default-char_at w ↦
-        let l : c.is_leading.result ≡ is_leading c.args.b = cc in
-        gap_nothing flow _ _ _ _ l (none_told c.args.text.now c.args.p.at w.char_at.ensures (not_char w.char_at.result w.in_default-char_at.not-Char))
+          let l : c.is_leading.result ≡ is_leading c.args.b = cc in
+          gap_nothing flow _ _ _ _ l (none_told c.args.text.now c.args.p.at w.char_at.ensures (not_char w.char_at.result w.in_default-char_at.not-Char))
       | in_default w ↦
-        let l : c.is_leading.result ≡ is_leading c.args.b = cc in
-        gap_ends flow _ _ _ l c.requires.2 w.in_default.not-Tabbed c.requires.1
+          let l : c.is_leading.result ≡ is_leading c.args.b = cc in
+          gap_ends flow _ _ _ l c.requires.2 w.in_default.not-Tabbed c.requires.1
     ])

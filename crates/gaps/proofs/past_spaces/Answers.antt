@@ -3,7 +3,7 @@ use native.Mathlib.Omega.{arith}
 use borrow.Author.Tests.{eq-eqb}
 use Rattle.yaml_text.specs.Char.{space}
 use Rattle.chars.specs.Blocks.{is_space}
-use Rattle.chars.specs.Each.{each_none, each_one, each_then}
+use Rattle.chars.specs.Each.{each_one, each_then}
 use Rattle.gaps.specs.Spaces.{spaces_over, spaces_past, tries_each}
 use Rattle.gaps.proofs.past_spaces.Goals as goal
 

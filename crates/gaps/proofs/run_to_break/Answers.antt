@@ -11,8 +11,8 @@ use Rattle.chars.specs.Bytes.{CharAt, char_at, none_told, not_char}
 use Rattle.chars.specs.Places.{small}
 use Rattle.chars.specs.Reach.{reach_one}
 use Rattle.gaps.specs.Line.{line, low_run}
-use Rattle.gaps.specs.Span.{Spanning, spans_along, spans_done, spans_start}
-use Rattle.gaps.proofs.Laws.{end_done, line_done, line_turn, low_few, low_spans, to_end}
+use Rattle.gaps.specs.Span.{Spanning, spans_along, spans_done}
+use Rattle.gaps.proofs.Laws.{end_done, line_done, line_turn, low_spans, to_end}
 use borrow.Author.Rules.{rules}
 use Rattle.gaps.proofs.run_to_break.Goals as goal
 use Rattle.gaps.proofs.run_to_break.Goals.{After-leading, After-skip_n_non_blank-q, In-Char}

@@ -3,9 +3,7 @@ use mathlib.Core.Path.{◌∙◌, ◌≡◌, ap}
 use lib.ListN.{drop}
 use Rattle.std.specs.List.{prefix_len}
 use Rattle.yaml_text.specs.Class.{is_blank}
-use Rattle.chars.specs.Places.{small}
-use Rattle.gaps.proofs.Laws.{blanks_few, blanks_past, to_end}
-use borrow.Author.Rules.{rules}
+use Rattle.gaps.proofs.Laws.{blanks_past, to_end}
 use Rattle.gaps.proofs.skip_blanks.Goals as goal
 use Rattle.gaps.proofs.skip_blanks.Goals.{After-leading}
 

@@ -10,8 +10,8 @@ use Rattle.chars.specs.Bytes.{CharAt, ascii_char, eq_char}
 use Rattle.chars.specs.Places.{small}
 use Rattle.gaps.specs.Answers.{skips_from, skips_refused}
 use Rattle.gaps.specs.Breaks.{BreakAt, break_at}
-use Rattle.gaps.specs.Walk.{walks_move, walks_start}
-use Rattle.gaps.proofs.Laws.{blanks_some, gap_blanks, gap_comment, gap_line, gap_wrong, line_some, open_blank, open_start, other_at}
+use Rattle.gaps.specs.Walk.{walks_move}
+use Rattle.gaps.proofs.Laws.{blanks_some, gap_blanks, gap_comment, gap_line, gap_wrong, line_some, open_blank, other_at}
 use borrow.Author.Rules.{rules}
 use Rattle.gaps.proofs.skip_gap.Goals as goal
 use Rattle.gaps.proofs.skip_gap.Goals.{After-break_length, After-past_spaces, Else-c-ne35, Then-is_blank}

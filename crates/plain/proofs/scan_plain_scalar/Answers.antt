@@ -1,6 +1,5 @@
 -- The first character is text whatever it is, and `text_end` tells the rest.
-use mathlib.Core.Path.{◌∙◌, ◌≡◌, ap, sym}
-use lib.Seq.{length-take-le}
+use mathlib.Core.Path.{◌∙◌, ◌≡◌, ap}
 use Rattle.std.proofs.Common.{Ok}
 use Rattle.yaml_text.specs.Class.{peek}
 use Rattle.yaml_text.specs.Mark.{along}

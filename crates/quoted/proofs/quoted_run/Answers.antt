@@ -1,9 +1,8 @@
 -- What is left to write from a turn on is the whole text; each turn reads a byte.
 use mathlib.Core.Path.{ap, refl}
-use native.Mathlib.Omega.{arith}
 use Rattle.std.proofs.Common.{Ok}
 use Rattle.std.proofs.lemmas.Result.{err_from_is_err_and}
-use Rattle.quoted.proofs.Running.{running_closed, running_less, running_more, running_refused, running_start}
+use Rattle.quoted.proofs.Running.{running_closed, running_more, running_refused, running_start}
 use Rattle.quoted.proofs.quoted_run.Goals as goal
 
 pub loop-next-init : goal.loop-next-init

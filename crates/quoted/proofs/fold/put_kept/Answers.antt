@@ -1,5 +1,4 @@
 -- One law of what is kept back for each mode.
-use native.Mathlib.Omega.{arith}
 use Rattle.quoted.proofs.Folds.{kept_blanks, kept_folded, kept_joined, kept_none}
 use Rattle.quoted.proofs.fold.put_kept.Goals as goal
 

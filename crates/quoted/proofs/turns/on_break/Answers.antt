@@ -1,5 +1,4 @@
 -- It is the definition's turn over a break.
-use mathlib.Core.Path.{◌∙◌}
 use Rattle.chars.specs.Lines.{break_few}
 use borrow.Author.Rules.{rules}
 use Rattle.quoted.proofs.turns.on_break.Goals as goal

@@ -2,9 +2,8 @@
 use mathlib.Core.Path.{◌∙◌, ap, sym}
 use Rattle.std.proofs.Common.{Ok}
 use Rattle.chars.specs.Bytes.{CharAt, char_at}
-use Rattle.quoted.proofs.Chosen.{blank_chosen, break_chosen, end_turns, owed_small}
+use Rattle.quoted.proofs.Chosen.{blank_chosen, break_chosen, end_turns}
 use Rattle.quoted.proofs.Spanned.{no_chars}
-use borrow.Author.Rules.{rules}
 use Rattle.quoted.proofs.turns.quoted_turn.Goals as goal
 use Rattle.quoted.proofs.turns.quoted_turn.Goals.{In-Char}
 

@@ -4,7 +4,6 @@ use native.Mathlib.Omega.{arith}
 use Rattle.chars.specs.declared.mark.Place.{Place}
 use Rattle.chars.specs.Bytes.{CharAt, char_at}
 use Rattle.chars.specs.Places.{small}
-use Rattle.gaps.specs.Span.{spans_start}
 use Rattle.quoted.proofs.Spanned.{no_chars, span_end, span_inner, span_more, span_ordinary, span_stop}
 use borrow.Author.Rules.{rules}
 use Rattle.quoted.proofs.turns.text_end.Goals as goal
