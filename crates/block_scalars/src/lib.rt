@@ -83,7 +83,13 @@ fn empty_scalar(k: Block, b: Layout, g: Margin, out: &mut [u8]) -> Lexeme
 }
 
 // 32: the first content column is above the parent's but below its own indent.
-fn content_under(text: &[u8], k: Block, b: Layout, g: Margin, out: &mut [u8]) -> Result<Lexeme, Refusal>
+fn content_under(
+    text: &[u8],
+    k: Block,
+    b: Layout,
+    g: Margin,
+    out: &mut [u8],
+) -> Result<Lexeme, Refusal>
     requires { Settles text.now b (first_of g) }
     ensures { Reads text.now out.old out.new k.used result (definition.block_content (layout_of b) (pick k.literal Literal Folded) k.parent k.start (margin_of text.now g)) }
 {
@@ -99,7 +105,13 @@ fn content_under(text: &[u8], k: Block, b: Layout, g: Margin, out: &mut [u8]) ->
 }
 
 // Behind the header's break. 31: a tab right there.
-fn under_header(text: &[u8], k: Block, h: Header, q: Place, out: &mut [u8]) -> Result<Lexeme, Refusal>
+fn under_header(
+    text: &[u8],
+    k: Block,
+    h: Header,
+    q: Place,
+    out: &mut [u8],
+) -> Result<Lexeme, Refusal>
     requires { HeaderRead text.now k h q }
     ensures { Reads text.now out.old out.new k.used result (under_header k (header_of text.now h) (view text.now q)) }
 {

@@ -1,5 +1,5 @@
 -- The numbers of kinds and styles are their places in the order of their types, from 1.
-use Rattle.std.specs.Prelude.{◌+◌, ◌<◌, ℕ, true, List, [], ◌∷◌, ◌≡◌, refl, ltb, Option, Some, None}
+use Rattle.std.specs.Prelude.{◌+◌, ◌<◌, ℕ, true, List, [], ◌∷◌, map, ◌≡◌, refl, ltb, Option, Some, None}
 use types.Run.{OneOf, miss}
 use denote.Enum.Declared.{tag_of}
 use Rattle.std.proofs.Common.{ltb-true}
@@ -34,6 +34,13 @@ five v = v.0 ∷ v.1 ∷ v.2 ∷ v.3 ∷ v.4 ∷ []
 abbrev pub marked : List ℕ → Option Kind → Option Token
 marked w None = None
 marked w (Some k) = with_marks w k
+
+-- the kinds that hold nothing, by their numbers
+abbrev pub silent_rows : List ℕ → List (ℕ × Option Token)
+silent_rows w =
+    map (λ (k : Kind). (number_of k, with_marks w k))
+    (StreamStart ∷ StreamEnd ∷ DocumentStart ∷ DocumentEnd ∷ ByteOrderMark ∷ BlockSequenceStart ∷ BlockMappingStart ∷ BlockEnd ∷ FlowSequenceStart
+    ∷ FlowSequenceEnd ∷ FlowMappingStart ∷ FlowMappingEnd ∷ BlockEntry ∷ FlowEntry ∷ Key ∷ Value ∷ [])
 
 -- what is known of each kind
 abbrev Known : Kind → Type 0

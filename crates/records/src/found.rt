@@ -2,10 +2,10 @@
 ghost use Rattle.std.specs.Prelude.{◌≡◌, drop, get_or, take};
 ghost use Rattle.yaml_lexeme.specs.Table.{looked_up};
 ghost use Rattle.yaml_lexeme.specs.Record.{record_words, scalar_rows, token_by_number, token_of};
-ghost use Rattle.records.specs.Kinds.{marked};
+ghost use Rattle.records.specs.Kinds.{marked, silent_rows};
 
-use crate::token::record_of;
 use crate::RECORD_WORDS;
+use crate::token::record_of;
 use yaml_lexeme::{Kind, Style, Text, Token};
 use yaml_text::Mark;
 
@@ -15,27 +15,38 @@ fn scalar(w: [u32; RECORD_WORDS], text: Text) -> Option<Kind>
     ensures { marked w result ≡ looked_up None (get_or w 11 0) (scalar_rows w text) }
 {
     match w[11] {
-        1 => Some(Kind::Scalar { style: Style::Plain, text }),
-        2 => Some(Kind::Scalar { style: Style::SingleQuoted, text }),
-        3 => Some(Kind::Scalar { style: Style::DoubleQuoted, text }),
-        4 => Some(Kind::Scalar { style: Style::Literal, text }),
-        5 => Some(Kind::Scalar { style: Style::Folded, text }),
+        1 => Some(Kind::Scalar {
+            style: Style::Plain,
+            text,
+        }),
+        2 => Some(Kind::Scalar {
+            style: Style::SingleQuoted,
+            text,
+        }),
+        3 => Some(Kind::Scalar {
+            style: Style::DoubleQuoted,
+            text,
+        }),
+        4 => Some(Kind::Scalar {
+            style: Style::Literal,
+            text,
+        }),
+        5 => Some(Kind::Scalar {
+            style: Style::Folded,
+            text,
+        }),
         _ => None,
     }
 }
 
-// The kind of the only token whose record w can be.
+// A kind that holds nothing.
 #[tactic(auto, unfolding(yaml_lexeme::specs::Table::looked_up, yaml_lexeme::specs::Record::number_of))]
-fn kind_by_number(w: [u32; RECORD_WORDS]) -> Option<Kind>
-    ensures { marked w result ≡ token_by_number w }
+fn silent_kind(w: [u32; RECORD_WORDS]) -> Option<Kind>
+    ensures { marked w result ≡ looked_up None (get_or w 0 0) (silent_rows w) }
 {
-    let t = Text { at: w[7], len: w[8] };
-    let u = Text { at: w[9], len: w[10] };
     match w[0] {
         1 => Some(Kind::StreamStart),
         2 => Some(Kind::StreamEnd),
-        3 => Some(Kind::VersionDirective { major: w[7], minor: w[8] }),
-        4 => Some(Kind::TagDirective { handle: t, prefix: u }),
         5 => Some(Kind::DocumentStart),
         6 => Some(Kind::DocumentEnd),
         7 => Some(Kind::ByteOrderMark),
@@ -50,12 +61,44 @@ fn kind_by_number(w: [u32; RECORD_WORDS]) -> Option<Kind>
         16 => Some(Kind::FlowEntry),
         17 => Some(Kind::Key),
         18 => Some(Kind::Value),
+        _ => None,
+    }
+}
+
+// The kind of the only token whose record w can be.
+#[tactic(auto, unfolding(yaml_lexeme::specs::Table::looked_up, yaml_lexeme::specs::Record::number_of))]
+fn kind_by_number(w: [u32; RECORD_WORDS]) -> Option<Kind>
+    ensures { marked w result ≡ token_by_number w }
+{
+    let t = Text {
+        at: w[7],
+        len: w[8],
+    };
+    let u = Text {
+        at: w[9],
+        len: w[10],
+    };
+    match w[0] {
+        3 => Some(Kind::VersionDirective {
+            major: w[7],
+            minor: w[8],
+        }),
+        4 => Some(Kind::TagDirective {
+            handle: t,
+            prefix: u,
+        }),
         19 => Some(Kind::Alias(t)),
         20 => Some(Kind::Anchor(t)),
-        21 => Some(Kind::Tag { handle: t, suffix: u }),
-        23 => Some(Kind::ReservedDirective { name: t, parameters: u }),
+        21 => Some(Kind::Tag {
+            handle: t,
+            suffix: u,
+        }),
         22 => scalar(w, t),
-        _ => None,
+        23 => Some(Kind::ReservedDirective {
+            name: t,
+            parameters: u,
+        }),
+        _ => silent_kind(w),
     }
 }
 
@@ -64,8 +107,16 @@ fn token_by_number(w: [u32; RECORD_WORDS]) -> Option<Token>
     ensures { result ≡ token_by_number w }
 {
     let kind = kind_by_number(w)?;
-    let start = Mark { index: w[1], line: w[2], col: w[3] };
-    let end = Mark { index: w[4], line: w[5], col: w[6] };
+    let start = Mark {
+        index: w[1],
+        line: w[2],
+        col: w[3],
+    };
+    let end = Mark {
+        index: w[4],
+        line: w[5],
+        col: w[6],
+    };
     Some(Token { kind, start, end })
 }
 

@@ -31,7 +31,7 @@ pub fn load(words: &[u32], at: usize) -> [u32; RECORD_WORDS]
     r
 }
 
-// Words from `at` on.
+// Words from `at` on, where they are known to fit: `copy` of rooms measures the room first.
 pub fn store(words: &mut [u32], at: usize, r: &[u32])
     requires { at + length r.now ≤ length words.old }
     ensures { words.new ≡ sets words.old at r.now }
@@ -39,7 +39,7 @@ pub fn store(words: &mut [u32], at: usize, r: &[u32])
     words[at..at + r.len()].copy_from_slice(r);
 }
 
-// The note on the record x.
+// The note on the record x, by its number; `Noted` has what it stands for.
 pub fn note_in(x: [u32; RECORD_WORDS]) -> u32
     ensures { result ≡ note_in x }
 {
@@ -67,5 +67,18 @@ pub fn set_note(words: &mut [u32], at: usize, note: Noted)
 pub fn empty_at(kind: Kind, x: [u32; RECORD_WORDS]) -> [u32; RECORD_WORDS]
     ensures { result ≡ empty_at (number_of kind) x }
 {
-    [kind_number(kind), x[1], x[2], x[3], x[1], x[2], x[3], 0, 0, 0, 0, 0]
+    [
+        kind_number(kind),
+        x[1],
+        x[2],
+        x[3],
+        x[1],
+        x[2],
+        x[3],
+        0,
+        0,
+        0,
+        0,
+        0,
+    ]
 }

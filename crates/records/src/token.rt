@@ -6,7 +6,7 @@ ghost use Rattle.records.specs.Kinds.{five};
 use crate::RECORD_WORDS;
 use yaml_lexeme::{Kind, Token};
 
-// Word 1: the number of a kind.
+// Word 1: the number of a kind. No conversion: it leaves out what the kind holds.
 #[tactic(auto, unfolding(yaml_lexeme::specs::Record::number_of))]
 pub fn kind_number(k: Kind) -> u32
     ensures { result ≡ number_of k }
@@ -61,6 +61,7 @@ fn values_of(k: Kind) -> [u32; 5]
     }
 }
 
+// All words. No `From`, since the type of tokens stands in the definition's crate, which has no code.
 #[tactic(auto, unfolding(yaml_lexeme::specs::Record::record_of))]
 pub fn record_of(t: Token) -> [u32; RECORD_WORDS]
     ensures { result ≡ record_of t }

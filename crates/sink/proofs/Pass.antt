@@ -62,6 +62,11 @@ pub total_least : (i : ℕ) (l : List ℕ) → i ≤ total_records (front i l)
 total_least zero l = omega arith
 total_least (suc i) l = let e = total_more i l in let h = total_least i l in omega arith
 
+pub total_none : (i : ℕ) (l : List ℕ) → i ≤ 0 → total_records (front i l) ≡ i
+unfolding front total_records
+total_none zero l h = refl
+total_none (suc i) l h = absurd (omega arith)
+
 empties_length : (ks : List Kind) (r : List ℕ) → length (empties ks r) ≡ length ks * record_words
 unfolding empties
 empties_length [] r = refl

@@ -5,9 +5,7 @@ mod block;
 
 ghost use Rattle.std.specs.Prelude.{◌≡◌, ◌*◌, ◌+◌, ◌-◌, ◌<◌, ◌^◌, ◌≤◌, length};
 ghost use Rattle.yaml_lexeme.specs.Record.{record_of, record_words};
-ghost use Rattle.events.specs.Event.{brief_event};
-ghost use Rattle.events.specs.Event.{opening_if};
-ghost use Rattle.events.specs.Event.{empty_of};
+ghost use Rattle.events.specs.Event.{brief_event, empty_of, opening_if};
 ghost use Rattle.records.specs.Noted.{noted_number};
 ghost use Rattle.sink.specs.Store.{put_list, put_note, put_record};
 ghost use Rattle.sink.specs.StepTokens.{end_tokens, event_tokens, note_from, noted_words, opening_tokens, put_news, shifted};
@@ -21,7 +19,8 @@ use records::{RECORD_WORDS, load, set_note, store};
 use yaml_lexeme::{Kind, Token};
 use yaml_text::Mark;
 
-// Stores the record of a token in slot n, if there is room for it.
+// Stores the record of a token in slot n, if there is room for it. Words and slot are no struct, here and below: each function may be given a
+// slot below another bound, and callers count slots in other types and store at several.
 pub fn put_record(words: &mut [u32], n: usize, t: Token)
     requires { n < 2 ^ 60 }
     ensures { words.new ≡ put_record words.old n (record_of t) }
@@ -38,7 +37,7 @@ fn put_empty_token(words: &mut [u32], n: usize, kind: Kind, m: Mark) -> usize
     ensures { (result ≡ n + 1) × (words.new ≡ put_record words.old n (record_of (empty_of kind m))) }
 {
     let t = Token {
-        kind: kind,
+        kind,
         start: m,
         end: m,
     };
@@ -173,10 +172,12 @@ pub fn settle(words: &mut [u32], n: u32, t: u32)
     requires { (t ≡ total_records (front n words.old)) × (t * record_words ≤ length words.old) }
     ensures { words.new ≡ settled_words n words.old }
 {
-    let mut i = n as usize;
     let mut j = t as usize;
-    while i < j {
-        i -= 1;
+    for i in (0..n as usize).rev() {
+        // What is left stands in its place.
+        if j == i + 1 {
+            break;
+        }
         let x = load(words, i * RECORD_WORDS);
         j = put_block(words, j, x);
     }

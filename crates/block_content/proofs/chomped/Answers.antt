@@ -14,8 +14,7 @@ returns-in-Clip c =
 
 pub returns-in-Keep : goal.returns-in-Keep
 returns-in-Keep c =
-    let f = flag_number c.args.last c.from-extra.ensures in
-    (
+    let f = flag_number c.args.last c.from-extra.ensures in (
       rw (c.own_break-in-Keep.ensures, f.0, c.lines_after.ensures) (chomped_keep c.args.last c.args.line c.in-Keep.is),
       omega (arith, c.own_break-in-Keep.ensures, c.lines_after.ensures, f.1),
     )
