@@ -117,6 +117,7 @@ fn reading_words(place: ShapePlace, met: Met, count: u32) -> [u32; OWN_WORDS]
     ]
 }
 
+#[tactic(auto, unfolding(crate::specs::Own::reader_words))]
 pub(crate) fn reader_words(r: Reader) -> [u32; OWN_WORDS]
     ensures { result ≡ reader_words r }
 {
