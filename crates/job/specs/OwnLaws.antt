@@ -1,9 +1,9 @@
 -- Laws of the reader's own words: what was stored is read back, and neither the reader nor the stream changes the other's words.
 use Rattle.std.specs.Prelude.{◌+◌, ◌<◌, ◌≤◌, suc, zero, ℕ, Bool, false, not, true, List, ◌++◌, ◌≡◌, refl, eqb, drop, get_or, length, replicate, take}
-use Rattle.std.proofs.Common.{◌∙◌, ap, sym, arith, length-take-le, take_at, ne_eqb}
+use Rattle.std.proofs.Common.{◌∙◌, [], ap, sym, append-nil, arith, drop_of_length-le, length-append, length-drop, length-take-le, take_at, ne_eqb}
 use Rattle.std.proofs.lemmas.List.{get_or-replicate, length-replicate, replicate-append-replicate}
 use Rattle.std.proofs.Math.Seq.{length_front}
-use Rattle.std.proofs.lemmas.List.Edits.{sets}
+use Rattle.std.proofs.lemmas.List.Edits.{sets, sets-eq}
 use Rattle.yaml_job.specs.declared.Closing.TheVariants.{Done, NotDone}
 use Rattle.yaml_job.specs.declared.Field.{Field}
 use Rattle.yaml_job.specs.declared.Field.TheVariants.{Panel, Sample, Seeds}
@@ -123,6 +123,16 @@ module _ (st held : List ℕ) (long : length st ≡ job_words) (same : length he
   -- then a reader was stored
   pub then_stored : (r : Reader) {ws st' : List ℕ} → ws ≡ reader_words r → st' ≡ sets lent held_words ws → (reader_in st' ≡ r) × (take held_words st' ≡ held)
   then_stored r {ws} e f = rw (f, e) (reader_back lent r lent_long, stream_stays lent (reader_words r) ∙ lent_stream)
+
+-- the two parts of a state, each written anew, are the state in which the reader's words were stored
+pub parts_stored : (st h ws : List ℕ) → length st ≡ job_words → length h ≡ held_words → length ws ≡ own_words
+    → h ++ ws ≡ sets (h ++ drop held_words st) held_words ws
+parts_stored st h ws e f g =
+    let d = length-drop held_words st in
+    let front : take held_words (h ++ drop held_words st) ≡ h = take_at h (drop held_words st) held_words f in
+    let none : drop (held_words + length ws) (h ++ drop held_words st) ≡ [] =
+    drop_of_length-le (h ++ drop held_words st) (omega (arith, e, f, g, d, length-append h (drop held_words st))) in
+    sym (sets-eq ws (h ++ drop held_words st) held_words (omega (arith, e, f, g, d, length-append h (drop held_words st))) ∙ rw (front, none, append-nil))
 
 -- a state that is all zero
 

@@ -3,10 +3,11 @@
 
 mod own;
 
-ghost use Rattle.std.specs.Prelude.{◌≡◌};
+ghost use Rattle.std.specs.Prelude.{◌≡◌, length};
 ghost use Rattle.yaml_lexeme.specs.Record.{mark_in};
 ghost use Rattle.yaml_scan.specs.Scan.{standard};
 ghost use Rattle.yaml_job.specs.Job.{effect, most_asked};
+ghost use Rattle.driver.specs.Held.{held_words};
 ghost use Rattle.job.specs.declared.Reader.TheVariants.{Reading};
 ghost use Rattle.job.specs.Asks.{AskPromises, AsksPromise, ends, from_answer, from_effect, hands, lost, next_count};
 ghost use Rattle.job.specs.JobHolds.{JobPromises};
@@ -164,7 +165,8 @@ fn asks(
     met: Met,
     count: u32,
 ) -> Replied
-    ensures { AsksPromise standard text.now most_asked held.old words.old bytes.old held.new words.new bytes.new place met count result }
+    ensures promise { AsksPromise standard text.now most_asked held.old words.old bytes.old held.new words.new bytes.new place met count result }
+    ensures same_length { length held.new ≡ held_words }
 {
     let mut p = place;
     let mut m = met;

@@ -38,6 +38,7 @@ pub fn tokenglade_scan(text: &[u8], words: &mut [u32], bytes: &mut [u8], answer:
 }
 
 // The numbers of a call's answer.
+#[tactic(auto, unfolding(crate::specs::Next::next_numbers))]
 fn next_numbers(a: Result<Next, Refusal>) -> [u32; 5]
     ensures { result ≡ next_numbers a }
 {
@@ -65,6 +66,7 @@ pub fn tokenglade_next(
 }
 
 // A seed's value and the running count.
+#[tactic(auto, unfolding(crate::specs::Job::seed_numbers))]
 fn seed_numbers(a: JobAnswer) -> [u32; 2]
     ensures { result ≡ seed_numbers a }
 {
@@ -75,6 +77,7 @@ fn seed_numbers(a: JobAnswer) -> [u32; 2]
 }
 
 // The closing record: 0, a seed was handed over; 1, done, and the count; 2, not done, the count, and the refusal.
+#[tactic(auto, unfolding(crate::specs::Job::closing_numbers))]
 fn closing_numbers(a: JobAnswer) -> [u32; 7]
     ensures { result ≡ closing_numbers a }
 {
@@ -85,6 +88,7 @@ fn closing_numbers(a: JobAnswer) -> [u32; 7]
     }
 }
 
+#[tactic(auto, unfolding(crate::specs::Job::closed_numbers))]
 fn closed_numbers(c: Closing) -> [u32; 7]
     ensures { result ≡ closed_numbers c }
 {

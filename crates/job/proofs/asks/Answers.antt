@@ -1,43 +1,50 @@
 -- In the loop what is promised of the tokens still to come is promised of all; a turn is one token of the definition's call.
-use native.Mathlib.Omega.{arith}
+use Rattle.std.proofs.Common.{arith, ◌+◌, ◌-◌, ◌≡◌}
 use Rattle.yaml_scan.specs.Scan.{standard}
 use Rattle.yaml_job.specs.Job.{most_asked}
 use Rattle.job.specs.AsksLaws.{asks_begin, turn_goes, turn_none, turn_replies}
 use Rattle.job.proofs.asks.Goals as goal
 
-pub loop-left-init : goal.loop-left-init
-loop-left-init c =
+pub loop-init : goal.loop-init
+loop-init c =
     let s = c.args in
-    asks_begin standard s.text.now s.held.now s.words.now s.bytes.now s.place s.met s.count most_asked c.requires
-
-pub ask-a-requires : goal.ask-a-requires
-ask-a-requires c = c.loop-left.invariant.held
+    asks_begin standard s.text.now s.held.now s.words.now s.bytes.now s.place s.met s.count most_asked (omega arith)
 
 pub returns-in-Replies : goal.returns-in-Replies
 returns-in-Replies c =
     let s = c.args in
-    let l = c.loop-left in
-    let o = c.ask-a in
-    turn_replies standard s.text.now s.held.now s.words.now s.bytes.now s.place s.met s.count most_asked
-    l.held l.words l.bytes l.p l.m l.left l.invariant
-    o.new.held o.new.words o.new.bytes o.result c.loop-left-test.true o.ensures
-    c.in-Replies.r c.in-Replies.is
+    let l = c.loop in
+    let o = c.ask in
+    record {
+      promise =
+        turn_replies standard s.text.now s.held.now s.words.now s.bytes.now s.place s.met s.count most_asked
+        l.held l.words l.bytes l.p l.m (most_asked - l.counter) l.invariant
+        o.new.held o.new.words o.new.bytes o.result (omega arith) o.ensures
+        c.in-Replies.r c.in-Replies.is;
+      same_length = o.array_long;
+    }
 
-pub loop-left-preserved : goal.loop-left-preserved
-loop-left-preserved c =
+pub loop-preserved : goal.loop-preserved
+loop-preserved c =
     let s = c.args in
-    let l = c.loop-left in
-    let o = c.ask-a in
-    turn_goes standard s.text.now s.held.now s.words.now s.bytes.now s.place s.met s.count most_asked
-    l.held l.words l.bytes l.p l.m l.left l.invariant
-    o.new.held o.new.words o.new.bytes o.result c.loop-left-test.true o.ensures
+    let l = c.loop in
+    let o = c.ask in
+    let left : most_asked - (l.counter + 1) ≡ most_asked - l.counter - 1 = omega arith in
+    rw left
+    (turn_goes standard s.text.now s.held.now s.words.now s.bytes.now s.place s.met s.count most_asked
+    l.held l.words l.bytes l.p l.m (most_asked - l.counter) l.invariant
+    o.new.held o.new.words o.new.bytes o.result (omega arith) o.ensures
     c.in-Goes.place c.in-Goes.met
-    o.auto.held o.auto.words o.auto.bytes c.in-Goes.is
+    (omega (arith, o.array_long, l.invariant.held)) o.auto.words o.auto.bytes c.in-Goes.is)
 
 pub returns : goal.returns
 returns c =
     let s = c.args in
-    let l = c.loop-left in
-    turn_none standard s.text.now s.held.now s.words.now s.bytes.now s.place s.met s.count most_asked
-    l.held l.words l.bytes l.p l.m l.left l.invariant
-    c.lost.result (omega (arith, c.loop-left-test.false)) c.lost.ensures
+    let l = c.loop in
+    record {
+      promise =
+        turn_none standard s.text.now s.held.now s.words.now s.bytes.now s.place s.met s.count most_asked
+        l.held l.words l.bytes l.p l.m (most_asked - l.counter) l.invariant
+        c.lost.result (omega (arith, c.loop-test.false)) c.lost.ensures;
+      same_length = l.invariant.held;
+    }

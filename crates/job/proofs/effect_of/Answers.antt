@@ -5,6 +5,4 @@ use Rattle.job.proofs.effect_of.Goals as goal
 pub returns : goal.returns
 returns c =
     let s = c.args in
-    let f = c.least-from in
-    let n = c.least in
-    effect_taken s.place s.met s.token s.bytes.now f.result n.result f.ensures.0 n.ensures.0 c.effect.ensures
+    effect_taken s.place s.met s.token s.bytes.now c.min-from.result c.min.result c.min-from.ensures c.min.ensures c.effect.ensures

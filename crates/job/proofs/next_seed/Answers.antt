@@ -1,12 +1,8 @@
 -- The reader in the state says whether the job is closed.
-use mathlib.Core.Path.{◌∙◌, sym}
+use Rattle.std.proofs.Common.{◌∙◌, sym}
 use Rattle.yaml_scan.specs.Scan.{standard}
 use Rattle.job.specs.JobLaws.{ended_told}
-use borrow.Author.Rules.{rules}
 use Rattle.job.proofs.next_seed.Goals as goal
-
-pub read_on-requires : goal.read_on-requires
-read_on-requires c = (search rules, sym c.reader_in.ensures ∙ c.in-Reading.is)
 
 pub returns-in-Ended : goal.returns-in-Ended
 returns-in-Ended c =
