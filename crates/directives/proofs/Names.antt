@@ -1,16 +1,13 @@
 -- A directive's name, told by its bytes.
 use Rattle.std.specs.Prelude.{Result}
-use Prim.Native.Nat.{◌+◌, ◌-◌, ◌<◌, ◌≤◌, suc, ℕ}
-use mathlib.Core.Bool.{Bool, ◌&&◌, false, true}
+use Prim.Native.Nat.{◌<◌, ◌≤◌, ℕ}
+use mathlib.Core.Bool.{Bool, false, true}
 use mathlib.Core.List.{List, [], ◌++◌, ◌∷◌}
-use mathlib.Core.Path.{◌∙◌, ◌≡◌, ap, refl, sym}
-use native.Mathlib.Numerals.{add-one}
+use mathlib.Core.Path.{◌∙◌, ◌≡◌, refl, sym}
 use native.Mathlib.Omega.{arith}
 use lib.Dec.{eqb, ltb}
 use lib.Pointwise.{pointwise}
-use lib.ListN.{drop, drop_of_length-le, get_or, length, length-drop}
-use lib.Seq.{drop-cons, get_or-drop, get_or-take, length-take-le}
-use borrow.Author.Tests.{eq-eqb, ltb-false, ltb-true, ne_eqb}
+use borrow.Author.Tests.{ltb-false, ltb-true, ne_eqb}
 use Rattle.yaml_text.specs.declared.Mark.{Mark}
 use Rattle.yaml_text.specs.Class.{same}
 use Rattle.yaml_text.specs.Mark as definition

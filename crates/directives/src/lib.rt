@@ -67,12 +67,7 @@ fn line_end(text: &[u8], start: Mark, l: Lexeme) -> Result<Lexeme, Refusal>
 }
 
 // The directive, of which a refusal may leave a part in the room. 10: no name; 11: the name is stopped by a BOM.
-fn read_directive(
-    text: &[u8],
-    start: Mark,
-    used: u32,
-    out: &mut [u8],
-) -> Result<Lexeme, Refusal>
+fn read_directive(text: &[u8], start: Mark, used: u32, out: &mut [u8]) -> Result<Lexeme, Refusal>
     requires { Indicated text.now start used }
     ensures { Reads text.now out.old out.new used result (scan_directive (view text.now (first_at start))) }
 {

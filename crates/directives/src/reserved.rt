@@ -51,13 +51,7 @@ fn read_parameters(text: &[u8], from: Place, n: usize, out: &mut [u8]) -> Writte
 }
 
 // Whose name ends at p.
-pub fn reserved_directive(
-    text: &[u8],
-    start: Mark,
-    p: Place,
-    used: u32,
-    out: &mut [u8],
-) -> Lexeme
+pub fn reserved_directive(text: &[u8], start: Mark, p: Place, used: u32, out: &mut [u8]) -> Lexeme
     requires { NameAt text.now start used p }
     ensures { Reads text.now out.old out.new used (Ok result) (got (reserved_directive start (name_in text.now start).text (view text.now p))) }
 {

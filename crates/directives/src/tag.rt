@@ -70,12 +70,7 @@ fn read_prefix(
     }
     let handle = text_at(used, n);
     let prefix = text_at(used + as_word(n), w.count - n);
-    Ok(Lexeme::new(
-        Kind::TagDirective { handle, prefix },
-        start,
-        e.mark,
-        e,
-    ))
+    Ok(Lexeme::new(Kind::TagDirective { handle, prefix }, start, e.mark, e))
 }
 
 // Behind its name.

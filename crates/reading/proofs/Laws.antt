@@ -1,8 +1,8 @@
 -- Line feeds, one store a turn: what is left gives the whole. And what a refusal clears.
-use Prim.Native.Nat.{◌+◌, ◌-◌, ◌<◌, ◌≤◌, suc, ℕ}
+use Prim.Native.Nat.{◌+◌, ◌-◌, ◌<◌, suc, ℕ}
 use Rattle.std.specs.Prelude.{false, true, Result, Ok, Err, is_err}
 use mathlib.Core.List.{List}
-use mathlib.Core.Path.{◌∙◌, ◌≡◌, ap, refl, sym}
+use mathlib.Core.Path.{◌∙◌, ◌≡◌, ap, refl}
 use native.Mathlib.Omega.{arith}
 use lib.ListN.{length, length-set, replicate, set}
 use lib.Seq.{sets}

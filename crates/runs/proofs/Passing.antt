@@ -24,9 +24,6 @@ pub record Passing (f : ℕ → Bool) (s : List ℕ) (p q : Place) : Type 0 wher
   pub place : (run f s p).place ≡ (run f s q).place
   pub bytes : encode (run f s p).text ≡ part s p.at q.at ++ encode (run f s q).text
 
-pub passing_start : {f : ℕ → Bool} {s : List ℕ} {p : Place} → Stands s p → Passing f s p p
-passing_start {s = s} {p = p} h = record { stands = h; onward = omega arith; place = refl; bytes = rw (part_none s p.at) }
-
 module _ {f : ℕ → Bool} {s : List ℕ} {p q : Place} (w : Passing f s p q) where
   pub passing_more : {c n : ℕ} → CharAt s q.at c n → f c ≡ true → Passing f s p (past q n (along q.mark))
   unfolding encode

@@ -63,11 +63,17 @@ fn put_one(
     if c != b'%' {
         put(out, n, c);
         let place = p.skip_blank();
-        return Ok(Written { count: n + 1, place });
+        return Ok(Written {
+            count: n + 1,
+            place,
+        });
     }
     let e = percent(text, p, start)?;
     let count = put_char(out, n, e.code);
-    Ok(Written { count, place: e.next })
+    Ok(Written {
+        count,
+        place: e.next,
+    })
 }
 
 // The longest run of characters of a class, percent escapes decoded, written from n on. A refusal leaves zeros from n on.

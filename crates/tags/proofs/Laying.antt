@@ -1,8 +1,8 @@
 -- Both texts of a tag: what its readers answer and are answered.
-use Rattle.std.specs.Prelude.{Result, Ok, Err}
+use Rattle.std.specs.Prelude.{Ok, Err}
 use Prim.Native.Nat.{◌+◌, ◌≤◌, ℕ}
 use mathlib.Core.List.{List, ◌++◌}
-use mathlib.Core.Path.{◌∙◌, ◌≡◌, ap, refl, sym}
+use mathlib.Core.Path.{◌∙◌, ◌≡◌, ap, refl}
 use lib.ListN.{length}
 use lib.Seq.{length-sets, sets}
 use Rattle.yaml_text.specs.declared.Mark.{Mark}

@@ -65,9 +65,6 @@ module _ {text : List ℕ} {start : Mark} (h : Tagged text start) (b : get_or te
   opened : CharAt text 1 '<' 1
   opened = eq_char text 1 (get_or text 1 0) refl '<' tt b
 
-  pub stands_third : Stands text (third start)
-  stands_third = stands_along h.stands 2 2 (omega arith) opened.within
-
   third_rest : chars (drop 2 text) ≡ drop 2 (chars (drop 0 text))
   third_rest = reach_rest (more h.first (more opened none))
 
@@ -133,9 +130,6 @@ module _ {text : List ℕ} {start : Mark} {p : Place} (h : NameAt text start p) 
   module _ (b : get_or text p.at 0 ≡ '!') where
     second : CharAt text p.at '!' 1
     second = eq_char text p.at (get_or text p.at 0) refl '!' tt b
-
-    pub stands_suffix : Stands text (past p 1 (along p.mark))
-    stands_suffix = stands_along h.name.moves.stands 1 1 (omega arith) second.within
 
     abbrev handle : List ℕ
     handle = '!' ∷ (name_in text start).text ++ ('!' ∷ [])

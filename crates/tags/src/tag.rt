@@ -124,12 +124,7 @@ fn read_tag(
     }
     let handle = text_at(used, t.one);
     let suffix = text_at(used + as_word(t.one), t.other);
-    Ok(Lexeme::new(
-        Kind::Tag { handle, suffix },
-        start,
-        end,
-        t.place,
-    ))
+    Ok(Lexeme::new(Kind::Tag { handle, suffix }, start, end, t.place))
 }
 
 // From its first mark.

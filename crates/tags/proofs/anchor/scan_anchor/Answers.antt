@@ -1,5 +1,5 @@
 -- The name is copied, if there is one; a refusal clears the room.
-use Rattle.std.proofs.Common.{arith, rules}
+use Rattle.std.proofs.Common.{rules}
 use Rattle.chars.specs.Parts.{Spans}
 use Rattle.reading.specs.Answers.{behind_first, stands_behind}
 use Rattle.tags.proofs.Anchors.{anchor_none, anchor_some, name}
