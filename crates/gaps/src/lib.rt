@@ -82,6 +82,7 @@ pub fn run_to_break(text: &[u8], start: Place) -> Place
 }
 
 // To the line's end.
+#[tactic(auto, using(chars::specs::Places::moves_as, crate::specs::Line::line_place))]
 fn to_break(text: &[u8], start: Place) -> Place
     requires { Stands text.now start }
     ensures { Moves text.now start result (to_break start.mark (chars (drop start.at text.now))) }
@@ -164,6 +165,7 @@ fn past_some_spaces(text: &[u8], at: usize) -> usize
 }
 
 // Where the spaces end that begin at a place. A turn passes one byte or a row of blocks, so no iterator takes its steps.
+#[tactic(auto, using(crate::specs::Spaces::spaces_over, crate::specs::Spaces::spaces_past))]
 fn past_spaces(text: &[u8], start: usize) -> usize
     requires { start ≤ length text.now }
     ensures { result ≡ start + space_run (drop start text.now) }

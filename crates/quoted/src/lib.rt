@@ -48,6 +48,7 @@ fn quoted_run(text: &[u8], q: Quote, out: &mut [u8]) -> Result<Written, Refusal>
 }
 
 // 40: what may follow a quoted scalar.
+#[tactic(auto, unfolding(yaml_lexeme::specs::Quoted::fits_after, yaml_text::specs::Class::among))]
 fn fits_after(flow: bool, same: bool, c: u32) -> bool
     ensures { result ≡ fits_after flow same c }
 {

@@ -4,11 +4,8 @@ use borrow.Author.Tests.{eq-eqb}
 use Rattle.yaml_text.specs.Char.{space}
 use Rattle.chars.specs.Blocks.{is_space}
 use Rattle.chars.specs.Each.{each_one, each_then}
-use Rattle.gaps.specs.Spaces.{spaces_over, spaces_past, tries_each}
+use Rattle.gaps.specs.Spaces.{tries_each}
 use Rattle.gaps.proofs.past_spaces.Goals as goal
-
-pub returns-else-text-at-eq32 : goal.returns-else-text-at-eq32
-returns-else-text-at-eq32 c = spaces_over c.loop-at.invariant c.loop-at-test.true c.if-text-at-eq32.false
 
 pub loop-at-preserved : goal.loop-at-preserved
 unfolding is_space
@@ -16,6 +13,3 @@ loop-at-preserved c =
     let h = c.loop-at-test.true in
     let one = each_one h (eq-eqb _ space c.if-text-at-eq32.true) in
     each_then c.loop-at.invariant (each_then one (tries_each (omega (arith, h)) c.past_some_spaces-at.ensures))
-
-pub returns-after-loop-at : goal.returns-after-loop-at
-returns-after-loop-at c = spaces_past c.loop-at.invariant c.loop-at-test.false
