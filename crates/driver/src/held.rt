@@ -5,8 +5,8 @@ ghost use Rattle.driver.specs.Held.{Modest, counts_held, place_held, put_counts,
 use chars::mark::Place;
 use events::Counts;
 use rooms::as_word;
-use stacks::indent::Indents;
 use stacks::STACK_WORDS;
+use stacks::indent::Indents;
 use states::State;
 use yaml_scan::Limits;
 use yaml_text::Mark;

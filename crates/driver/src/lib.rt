@@ -4,6 +4,7 @@
 pub mod held;
 
 ghost use Rattle.std.specs.Prelude.{◌+◌, ◌-◌, ◌^◌, ◌<◌, ◌≤◌, suc, false, true, ◌≡◌, length};
+ghost use Rattle.yaml_text.specs.Mark.{origin};
 ghost use Rattle.yaml_scan.specs.Choice.{choice};
 ghost use Rattle.yaml_scan.specs.Scan.{standard, step};
 ghost use Rattle.yaml_stream.specs.Levels.{level_key};
@@ -20,7 +21,9 @@ ghost use Rattle.driver.specs.Drives.{Drives};
 ghost use Rattle.driver.specs.Held.{Modest, pending_held, put_counts, put_pending, put_state, put_until};
 ghost use Rattle.driver.specs.Step.{StepDone, token_news};
 
-use crate::held::{BASE, HELD_WORDS, LEVEL, UNTIL, load_counts, load_state, store_counts, store_state};
+use crate::held::{
+    BASE, HELD_WORDS, LEVEL, UNTIL, load_counts, load_state, store_counts, store_state,
+};
 use chars::mark::origin;
 use chars::refuse::refuse;
 use choices::advance::to_next_token;
@@ -73,6 +76,16 @@ pub fn standard() -> Limits
         bytes: 1_048_576,
         levels: 255,
         entries: 255,
+    }
+}
+
+// A refusal that has no place in the text.
+pub fn outside(number: u32) -> Refusal
+    ensures { result ≡ record { number = number; mark = origin } }
+{
+    Refusal {
+        number,
+        mark: origin(),
     }
 }
 
@@ -293,16 +306,12 @@ fn behind_one(
     ensures { halt_of result ≡ one_by_one room base w level (frame_keys stacks.now (suc t.flow_level)) t.flow_level t.place.mark k }
 {
     if room < k.used as usize {
-        // It has no place in the text.
-        return refuse(5, origin());
+        return Err(outside(5));
     }
     if is_named(stacks, t.flow_level, w.level, w.number) {
         return too_many(w, k, t.place.mark);
     }
-    Ok(if_enough(
-        base,
-        then_pending(stacks, level, t.flow_level, k),
-    ))
+    Ok(if_enough(base, then_pending(stacks, level, t.flow_level, k)))
 }
 
 // Behind a step. In the one call nothing is asked.

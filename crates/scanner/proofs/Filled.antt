@@ -3,6 +3,7 @@ use Prim.Native.Nat.{◌*◌, ◌+◌, ◌-◌, ◌/◌, ◌<◌, ◌≤◌, ℕ
 use mathlib.Core.Bool.{false, true}
 use mathlib.Core.List.{List, ◌++◌}
 use mathlib.Core.Path.{◌∙◌, ◌≡◌, ap, refl, sym}
+use Rattle.std.specs.Prelude.{Ok, Err}
 use native.Mathlib.Nat.{zero-add}
 use native.Mathlib.Omega.{arith}
 use lib.Dec.{ltb}
@@ -28,21 +29,10 @@ use Rattle.events.specs.declared.Counts.{Counts}
 use Rattle.sink.specs.Run.{outcome_records, outcome_texts}
 use Rattle.sink.specs.Settle.{front, settled_words}
 use Rattle.sink.specs.Stored.{no_counts, stored_words, tokens_counted}
-use Rattle.validity.specs.declared.Checked.TheVariants as Checked
 use Rattle.validity.specs.Checked.{checked}
 use Rattle.validity.specs.CheckedLaws.{passed_chars, refused_as}
-use Rattle.scanner.specs.declared.Answer.TheVariants.{Accepted}
 use Rattle.scanner.specs.Promise.{Settles, answer_of, lent_of}
 use Rattle.scanner.specs.Run.{RunScans, RunStops}
-
--- a refusal
-
-cleared_all : (l : List ℕ) → cleared l 0 ≡ replicate (length l) 0
-cleared_all l = let e : length l - 0 ≡ length l = omega arith in rw e
-
-pub blank : (v : Verdict) (words bytes : List ℕ) {words' bytes' : List ℕ} → words' ≡ cleared words 0 → bytes' ≡ cleared bytes 0
-    → ◌≡◌ {A = definition.Answer} (record { verdict = v; words = words'; bytes = bytes' }) (blank_answer v (length words) (length bytes))
-blank v words bytes e f = rw (e, f, cleared_all words, cleared_all bytes)
 
 -- by room
 
@@ -59,7 +49,7 @@ module _ (n : Counts) (words bytes : List ℕ) where
     no_bytes e k i = i ∙ rw (e, le-ltb (length words / record_words) (tokens_counted n) h, lt-ltb (length bytes) n.used k, lent_of)
 
     pub both_fit : {placed words' bytes' : List ℕ} → n.used ≤ length bytes → placed ≡ settled_words n.count words → words' ≡ cleared placed (tokens_counted n * record_words)
-        → bytes' ≡ cleared bytes n.used → answer_of (Accepted (tokens_counted n) n.used) words' bytes' ≡ lent_of n words bytes
+        → bytes' ≡ cleared bytes n.used → answer_of (Ok (record { tokens = tokens_counted n; bytes = n.used })) words' bytes' ≡ lent_of n words bytes
     unfolding lent_of
     both_fit k p q r = rw (r, q, p, le-ltb (length words / record_words) (tokens_counted n) h, le-ltb (length bytes) n.used k, lent_of)
 
@@ -76,12 +66,12 @@ module _ (limits : Limits) (text : List ℕ) where
   too_long l b e h = record { same = rw (e, lt-ltb limits.bytes (length text) h, outcome); words = refl; bytes = refl }
 
   module _ (h : length text ≤ limits.bytes) where
-    pub invalid : {f : Refusal} (l b : List ℕ) → Checked.Refused f ≡ checked (decode 0 origin text) → RunStops (outcome limits text) l b l b f
+    pub invalid : {f : Refusal} (l b : List ℕ) → Err f ≡ checked (decode 0 origin text) → RunStops (outcome limits text) l b l b f
     unfolding outcome
     invalid {f} l b e =
         record { same = rw (le-ltb limits.bytes (length text) h, refused_as (decode 0 origin text) f (sym e), outcome); words = refl; bytes = refl }
 
-    pub valid : Checked.Sound ≡ checked (decode 0 origin text) → scan limits (chars text) ≡ outcome limits text
+    pub valid : Ok tt ≡ checked (decode 0 origin text) → scan limits (chars text) ≡ outcome limits text
     unfolding outcome
     valid e = rw (le-ltb limits.bytes (length text) h, passed_chars origin text (sym e), outcome)
 

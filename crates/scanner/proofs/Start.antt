@@ -3,6 +3,8 @@ use Prim.Native.Nat.{◌≤◌, suc, zero, ℕ}
 use mathlib.Core.Bool.{false}
 use mathlib.Core.List.{List, [], ◌∷◌}
 use mathlib.Core.Path.{◌∙◌, ◌≡◌, ap, refl, subst, sym}
+use Rattle.std.specs.Prelude.{Result, Ok, Err}
+use Rattle.yaml_text.specs.declared.Refusal.{Refusal}
 use native.Mathlib.Omega.{arith}
 use lib.ListN.{get_or, length, length-replicate, replicate}
 use lib.Seq.{get_or-take}
@@ -32,7 +34,7 @@ use Rattle.sink.specs.Store.{put_record}
 use Rattle.sink.specs.Stored.{Stored, no_counts, stored_then}
 use Rattle.storing.specs.Step.{StepGiven}
 use Rattle.driver.specs.declared.Outcome.{Outcome}
-use Rattle.driver.specs.declared.Outcome.TheVariants.{Ready, Scanned, Stopped}
+use Rattle.driver.specs.declared.Outcome.TheVariants.{Ready, Scanned}
 use Rattle.stream_laws.specs.Driven.{Driven}
 use Rattle.driver.specs.Drives.{Drives, drives}
 use Rattle.driver.specs.Held.{Modest, base_at, counts_held, held_words, pending_held, put_counts, put_state, stacks_held, word}
@@ -40,7 +42,13 @@ use Rattle.driver.proofs.Driven.{AsRun, driven_run}
 use Rattle.driver.proofs.Driving.{all_driven}
 use Rattle.driver.proofs.Leaving.{Loaded, loaded_drives, test_at}
 use Rattle.driver.proofs.Words.{stored_counts, stored_other, stored_state}
-use Rattle.scanner.specs.Run.{RunComes}
+use Rattle.scanner.specs.Run.{RunScans, RunStops}
+
+-- what the steps come to: nothing is asked behind one, so that they never pause
+abbrev pub Comes : definition.Outcome → Counts → List ℕ → List ℕ → List ℕ → List ℕ → Result Outcome Refusal → Type 0
+Comes d n l b l' b' (Ok (Scanned m)) = RunScans d n m l b l' b'
+Comes d n l b l' b' (Ok Ready) = ⊥
+Comes d n l b l' b' (Err f) = RunStops d l b l' b' f
 
 abbrev pub one : Counts
 one = record { count = 1; put_in = 0; used = 0 }
@@ -108,27 +116,27 @@ module _ (limits : Limits) (text : List ℕ) (modest : Modest limits) (short : l
       (driven_run limits (suc (length (chars text))) (pending_held held_first 0 one) s one))
 
   -- StreamStart is stored first
-  start_comes : {l' : List ℕ} (l b h words bytes : List ℕ) (o : Outcome) → l' ≡ put_record l 0 (record_of (empty_of kind.StreamStart origin)) → length l' ≡ length l
-      → Drives limits false text held_first l' b h words bytes o → RunComes (scan limits (chars text)) no_counts l b words bytes o
+  start_comes : {l' : List ℕ} (l b h words bytes : List ℕ) (o : Result Outcome Refusal) → l' ≡ put_record l 0 (record_of (empty_of kind.StreamStart origin)) → length l' ≡ length l
+      → Drives limits false text held_first l' b h words bytes o → Comes (scan limits (chars text)) no_counts l b words bytes o
   unfolding scan store_laid laid_events event_texts puts total laid kind_bytes
   start_comes {l'} l b h words bytes o e kept c = by_outcome o c
     where
       start_stored : Stored 0 no_counts one l b l' b (put (empty_token StreamStart origin) ∷ [])
       start_stored = record { words = e; bytes = refl; counts = record { count = refl; tokens = refl; used = refl } }
 
-      by_outcome : (o : Outcome) → Drives limits false text held_first l' b h words bytes o → RunComes (scan limits (chars text)) no_counts l b words bytes o
-      by_outcome (Scanned m) (x, _, _) =
+      by_outcome : (o : Result Outcome Refusal) → Drives limits false text held_first l' b h words bytes o → Comes (scan limits (chars text)) no_counts l b words bytes o
+      by_outcome (Ok (Scanned m)) (x, _, _) =
           record {
             said = put (empty_token StreamStart origin) ∷ x.said;
             same = rw (first_comes (length b) x.same);
             stored = stored_then (omega arith) start_stored (rw (← first_loaded.base_is, ← first_loaded.counts_is) at x.stored);
             few = x.few;
           }
-      by_outcome (Stopped f) x = record { same = rw (first_comes (length b) x.same); words = x.words_length ∙ kept; bytes = x.bytes_length }
-      by_outcome Ready x = first_comes (length b) x.same
+      by_outcome (Err f) x = record { same = rw (first_comes (length b) x.same); words = x.words_length ∙ kept; bytes = x.bytes_length }
+      by_outcome (Ok Ready) x = first_comes (length b) x.same
 
   -- the state and the counts were stored one after the other
-  pub start_runs : {s : code.State} {h₁ h₂ l' : List ℕ} (l b h words bytes : List ℕ) (o : Outcome) → s ≡ s_begin → h₁ ≡ put_state (replicate held_words 0) s → h₂ ≡ put_counts h₁ one
+  pub start_runs : {s : code.State} {h₁ h₂ l' : List ℕ} (l b h words bytes : List ℕ) (o : Result Outcome Refusal) → s ≡ s_begin → h₁ ≡ put_state (replicate held_words 0) s → h₂ ≡ put_counts h₁ one
       → l' ≡ put_record l 0 (record_of (empty_of kind.StreamStart origin)) → length l' ≡ length l → Drives limits false text h₂ l' b h words bytes o
-      → RunComes (scan limits (chars text)) no_counts l b words bytes o
+      → Comes (scan limits (chars text)) no_counts l b words bytes o
   start_runs l b h words bytes o first state_stored counts_stored e kept c = start_comes l b h words bytes o e kept (rw (counts_stored, state_stored, first) at c)

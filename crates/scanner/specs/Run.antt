@@ -6,8 +6,6 @@ use Rattle.yaml_scan.specs.Scan.{scanned, stopped}
 use Rattle.yaml_scan.specs.Scan as definition
 use Rattle.events.specs.declared.Counts.{Counts}
 use Rattle.sink.specs.Stored.{CountsWithin, Stored}
-use Rattle.driver.specs.declared.Outcome.{Outcome}
-use Rattle.driver.specs.declared.Outcome.TheVariants.{Ready, Scanned}
 
 -- a run whose outcome is d: all that was said is stored and counted
 pub record RunScans (d : definition.Outcome) (n m : Counts) (l b l' b' : List ℕ) : Type 0 where
@@ -22,8 +20,6 @@ pub record RunStops (d : definition.Outcome) (l b l' b' : List ℕ) (f : Refusal
   pub words : length l' ≡ length l
   pub bytes : length b' ≡ length b
 
--- nothing is asked behind a step, so that the run never pauses
-abbrev pub RunComes : definition.Outcome → Counts → List ℕ → List ℕ → List ℕ → List ℕ → Result Outcome Refusal → Type 0
-RunComes d n l b l' b' (Ok (Scanned m)) = RunScans d n m l b l' b'
-RunComes d n l b l' b' (Ok Ready) = ⊥
+abbrev pub RunComes : definition.Outcome → Counts → List ℕ → List ℕ → List ℕ → List ℕ → Result Counts Refusal → Type 0
+RunComes d n l b l' b' (Ok m) = RunScans d n m l b l' b'
 RunComes d n l b l' b' (Err f) = RunStops d l b l' b' f

@@ -4,23 +4,21 @@
 mod run;
 
 ghost use Rattle.std.specs.Prelude.{◌≡◌, length};
-ghost use Rattle.yaml_text.specs.Mark.{origin};
 ghost use Rattle.yaml_scan.specs.Scan.{blank_answer, outcome, refusal, standard};
 ghost use Rattle.sink.specs.Stored.{no_counts};
-ghost use Rattle.stacks.specs.Most.{at_most};
 ghost use Rattle.driver.specs.Held.{Modest};
 ghost use Rattle.scanner.specs.Promise.{Answers, Settles, answer_of, capped, lent_of};
 ghost use Rattle.scanner.specs.Run.{RunComes};
 
 use crate::run::run;
-use driver::{Outcome, standard};
+use driver::{outside, standard};
 use events::Counts;
 use records::RECORD_WORDS;
-use rooms::{clear_from, clear_words_from};
+use rooms::clear_from;
 use sink::settle;
-use validity::{Checked, check_text};
+use validity::check_text;
 use yaml_scan::Limits;
-use yaml_text::{Mark, Refusal};
+use yaml_text::Refusal;
 
 // T, the tokens, and D, the bytes of their texts.
 #[derive(Clone, Copy)]
@@ -41,52 +39,29 @@ const NONE: Sizes = Sizes {
     bytes: 0,
 };
 
-// A refusal that has no place in the text.
-fn outside(number: u32) -> Refusal
-    ensures { result ≡ record { number = number; mark = origin } }
-{
-    let m = Mark {
-        index: 0,
-        line: 1,
-        col: 0,
-    };
-    Refusal {
-        number: number,
-        mark: m,
-    }
-}
-
 // 1; then 2 or 3; then the run.
 fn outcome(
     limits: Limits,
     text: &[u8],
     words: &mut [u32],
     bytes: &mut [u8],
-) -> Result<Outcome, Refusal>
+) -> Result<Counts, Refusal>
     requires { Modest limits }
     ensures { RunComes (outcome limits text.now) no_counts words.old bytes.old words.new bytes.new result }
 {
     if limits.bytes < text.len() {
         return Err(outside(1));
     }
-    let c = check_text(text);
-    if let Checked::Refused(f) = c {
-        return Err(f);
-    }
+    check_text(text)?;
     run(limits, text, words, bytes)
 }
 
 // A refusal leaves both rooms all zero.
-fn clears(
-    f: Refusal,
-    sizes: Sizes,
-    words: &mut [u32],
-    bytes: &mut [u8],
-) -> Result<Sizes, Refused>
+fn clears(f: Refusal, sizes: Sizes, words: &mut [u32], bytes: &mut [u8]) -> Result<Sizes, Refused>
     ensures { answer_of result words.new bytes.new ≡ blank_answer (refusal f.number f.mark sizes.tokens sizes.bytes) (length words.old) (length bytes.old) }
 {
-    clear_words_from(words, 0);
-    clear_from(bytes, 0);
+    words.fill(0);
+    bytes.fill(0);
     Err(Refused { refusal: f, sizes })
 }
 
@@ -108,7 +83,7 @@ fn lent(n: Counts, words: &mut [u32], bytes: &mut [u8]) -> Result<Sizes, Refused
         return clears(outside(5), sizes, words, bytes);
     }
     settle(words, n.count, sizes.tokens);
-    clear_words_from(words, t * RECORD_WORDS);
+    clear_from(words, t * RECORD_WORDS);
     clear_from(bytes, d);
     Ok(sizes)
 }
@@ -123,22 +98,10 @@ fn scan_within(
     requires { Modest limits }
     ensures { Answers limits text.now words.old bytes.old words.new bytes.new result }
 {
-    let o = outcome(limits, text, words, bytes);
-    match o {
-        Ok(Outcome::Scanned(n)) => lent(n, words, bytes),
-        // Tokens are not given one at a time: it does not come.
-        Ok(Outcome::Ready) => clears(outside(0), NONE, words, bytes),
+    match outcome(limits, text, words, bytes) {
+        Ok(n) => lent(n, words, bytes),
         Err(f) => clears(f, NONE, words, bytes),
     }
-}
-
-fn at_most(most: usize, n: usize) -> usize
-    ensures { result ≡ at_most most n }
-{
-    if most < n {
-        return most;
-    }
-    n
 }
 
 // A limit above 01's counts as 01's.
@@ -147,9 +110,9 @@ fn capped(limits: Limits) -> Limits
 {
     let most = standard();
     Limits {
-        bytes: at_most(most.bytes, limits.bytes),
-        levels: at_most(most.levels, limits.levels),
-        entries: at_most(most.entries, limits.entries),
+        bytes: limits.bytes.min(most.bytes),
+        levels: limits.levels.min(most.levels),
+        entries: limits.entries.min(most.entries),
     }
 }
 

@@ -21,7 +21,7 @@ pub(crate) fn run(
     text: &[u8],
     words: &mut [u32],
     bytes: &mut [u8],
-) -> Result<Outcome, Refusal>
+) -> Result<Counts, Refusal>
     requires { Modest limits × (length text.now ≤ 1_048_576) }
     ensures { RunComes (scan limits (chars text.now)) no_counts words.old bytes.old words.new bytes.new result }
 {
@@ -41,5 +41,10 @@ pub(crate) fn run(
     let mut held = [0u32; HELD_WORDS];
     store_state(&mut held, s);
     store_counts(&mut held, n);
-    all_steps(limits, text, false, &mut held, words, bytes)
+    let o = all_steps(limits, text, false, &mut held, words, bytes)?;
+    match o {
+        Outcome::Scanned(m) => Ok(m),
+        // Tokens are not given one at a time, so that the steps never pause.
+        Outcome::Ready => unreachable!(),
+    }
 }

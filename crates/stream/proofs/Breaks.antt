@@ -2,6 +2,7 @@
 use Prim.Native.Nat.{◌+◌, ◌<◌, ℕ}
 use mathlib.Core.List.{List, [], ◌++◌, append-nil}
 use mathlib.Core.Path.{◌∙◌, ◌≡◌, refl, subst, sym}
+use Rattle.std.specs.Prelude.{Result, Err}
 use native.Mathlib.Omega.{arith}
 use lib.ListN.{get_or, length, length-set, set}
 use lib.Seq.{get_or-set_other, get_or-set_same, length-sets, sets}
@@ -16,7 +17,6 @@ use Rattle.stacks.proofs.Frames.{get_d_sets, getD_sets_other}
 use Rattle.sink.specs.SlotWords.{slot_texts, slot_words}
 use Rattle.driver.specs.Held.{held_words, mark_at, mark_words, number_at, phase_at, slot_at, until_at, word}
 use Rattle.stream.specs.declared.Next.{Next}
-use Rattle.stream.specs.declared.Next.TheVariants as next
 use Rattle.stream.specs.Holds.{Breaks, Calls, Holds, Says, breaks, text_given}
 use Rattle.stream.specs.Words.{no_token, put_refusal, refusal_held, refused_held}
 
@@ -83,8 +83,8 @@ module _ (h : List ℕ) (f : Refusal) (all : length h ≡ held_words) where
       }
 
 -- the answer where nothing can be given
-pub broken_answer : {limits : Limits} {text b h l r gone : List ℕ} {a : Next} {k : ℕ} {m : Mark} (x : Stream) → call limits (length b) x ≡ called (refusal k m) (broken k m)
-    → Breaks h l b gone [] k m → a ≡ next.Refused (record { number = k; mark = m }) → r ≡ no_token → Calls limits text b h l b r a gone x
+pub broken_answer : {limits : Limits} {text b h l r gone : List ℕ} {a : Result Next Refusal} {k : ℕ} {m : Mark} (x : Stream) → call limits (length b) x ≡ called (refusal k m) (broken k m)
+    → Breaks h l b gone [] k m → a ≡ Err (record { number = k; mark = m }) → r ≡ no_token → Calls limits text b h l b r a gone x
 unfolding flat
 broken_answer {limits} {text} {b} {h} {l} {r} {gone} {a} {k} {m} x e w i j =
     record {

@@ -23,10 +23,6 @@ use Rattle.stream.specs.Holds.{Scans}
 use Rattle.stream.specs.Words.{first_at, front_base, front_held, front_words, record_from, slot_held}
 use Rattle.stream.proofs.Kept.{SameSeen, seen_set}
 
-at_most_low : (most n : ℕ) → at_most most n ≤ n
-unfolding at_most
-at_most_low most n = by_test (ltb most n) (λ e. rw e (omega (arith, ltb-true most n e))) (λ e. rw e (omega arith))
-
 module _ (limits : Limits) (text h l b gone : List ℕ) (all : length h ≡ held_words) where
   abbrev based : List ℕ
   based = set h base_at (front_base h)
@@ -77,7 +73,7 @@ module _ (limits : Limits) (text h l b gone : List ℕ) (all : length h ≡ held
         let r = record_from l (first_at h) in
         let i : length xs * record_words ≡ record_words = omega arith in
         let f : r ≡ slot_words (length gone) xs = ap (λ (k : ℕ). record_from l (k * record_words)) slot_is ∙ rw i at c.waits.slots in
-        let p : ltb (front_base h) (word h counts_at) ≡ true = lt-ltb (front_base h) (word h counts_at) (omega (arith, base_is, count_is, at_most_low (1 + 512 * at_held text h) (word h counts_at))) in
+        let p : ltb (front_base h) (word h counts_at) ≡ true = lt-ltb (front_base h) (word h counts_at) (omega (arith, base_is, count_is)) in
         let k : length r ≡ record_words = ap length f ∙ slot_words_length (length gone) xs ∙ i in
         rw (p, i) (ap (λ (w : List ℕ). take record_words w) (sets-eq r l 0 (omega (arith, c.lent.records))) ∙ take_at r (drop (0 + length r) l) record_words k ∙ f)
 

@@ -3,9 +3,11 @@ use Prim.Native.Nat.{◌*◌, ◌+◌, ◌<◌, ◌≤◌, ℕ}
 use mathlib.Core.Bool.{Bool, false, true}
 use mathlib.Core.List.{List, [], ◌++◌, ◌∷◌}
 use mathlib.Core.Path.{◌∙◌, ◌≡◌, ap, refl, subst, sym}
+use Rattle.std.specs.Prelude.{Result, Ok}
 use native.Mathlib.Omega.{arith}
 use lib.ListN.{length}
 use lib.Seq.{get_or-set_other}
+use Rattle.yaml_text.specs.declared.Refusal.{Refusal}
 use Rattle.yaml_text.specs.declared.Mark.{Mark}
 use Rattle.yaml_lexeme.specs.Token.{Token, token_bytes}
 use Rattle.yaml_lexeme.specs.Record.{record_words}
@@ -45,11 +47,11 @@ module _ (limits : Limits) (text h l b gone h' l' r : List ℕ) where
 
     calls_then : {x z : Stream} → CallsGive limits (length b) x (flat gs) z
         → ((y : Stream) → CallsGive limits (length b) y (flat w.left) z → Holds limits text h' l' b (gone ++ token_bytes w.token) y)
-        → Calls limits text b h' l' b r next.Token gone x
+        → Calls limits text b h' l' b r (Ok next.Token) gone x
     calls_then {x} {z} a m =
         let f = first_ahead (rw w.first at a) in
         record {
-          says = subst (λ (c : Called). Says (length gone) c.answer r next.Token) (sym f.calls) (refl, w.is);
+          says = subst (λ (c : Called). Says (length gone) c.answer r (Ok next.Token)) (sym f.calls) (refl, w.is);
           holds = subst (λ (c : Called). Holds limits text h' l' b (gone ++ text_given c.answer) c.stream) (sym f.calls) (m f.behind f.rest);
         }
 
@@ -89,7 +91,7 @@ module _ (limits : Limits) (text h l b gone h' l' r : List ℕ) where
 -- the call
 module _ (limits : Limits) (text h l b h' l' r : List ℕ) (all : length h ≡ held_words) (g : Gives h l h' l' r) where
   given_held : {gone : List ℕ} {x : Stream} → (least_records * record_words ≤ length l) × (word h slot_at < word h until_at) → Holds limits text h l b gone x
-      → Calls limits text b h' l' b r next.Token gone x
+      → Calls limits text b h' l' b r (Ok next.Token) gone x
   given_held o (fresh_state e f) = absurd (omega arith)
   given_held {gone} o (scans m a c) =
       let w = given b gone all g c.waits o.1 in
@@ -104,7 +106,7 @@ module _ (limits : Limits) (text h l b h' l' r : List ℕ) (all : length h ≡ h
 -- what a call that may give one leaves
 
 module _ (limits : Limits) (text h l b : List ℕ) {t h' l' t' : List ℕ} {v : Bool} (g : MayGive h l t h' l' t' v) where
-  pub given_calls : length h ≡ held_words → v ≡ true → Promises limits text h l b h' l' b t' next.Token
+  pub given_calls : length h ≡ held_words → v ≡ true → Promises limits text h l b h' l' b t' (Ok next.Token)
   given_calls all e gone x k = given_held limits text h l b h' l' t' all (g.given e) (some_told h (length l) (sym g.told ∙ e)) k
 
 module _ {h l t h' l' t' : List ℕ} {v : Bool} (g : MayGive h l t h' l' t' v) (e : v ≡ false) where
@@ -112,11 +114,8 @@ module _ {h l t h' l' t' : List ℕ} {v : Bool} (g : MayGive h l t h' l' t' v) (
   none_given = rw ((g.stays e).0, (g.stays e).1) (sym g.told ∙ e)
 
   -- so the call scans, within the limits of 01
-  pub scan_asked : {limits : Limits} → limits ≡ standard → length h ≡ held_words → length t ≡ record_words
-      → Modest limits × (1 ≤ limits.entries) × (has_some h' (length l') ≡ false) × (length h' ≡ held_words) × (length t' ≡ record_words)
-  scan_asked i j k =
-      let s = g.stays e in
-      (rw i (record { bytes = omega arith; levels = omega arith; entries = omega arith }), rw i (omega arith), none_given, ap length s.0 ∙ j, ap length s.2 ∙ k)
+  pub scan_asked : {limits : Limits} → limits ≡ standard → Modest limits × (1 ≤ limits.entries) × (has_some h' (length l') ≡ false)
+  scan_asked i = (rw i (record { bytes = omega arith; levels = omega arith; entries = omega arith }), rw i (omega arith), none_given)
 
-  pub scan_calls : {limits : Limits} {text b h₂ l₂ b₂ r : List ℕ} {a : Next} → limits ≡ standard → Promises limits text h' l' b h₂ l₂ b₂ r a → Promises standard text h l b h₂ l₂ b₂ r a
+  pub scan_calls : {limits : Limits} {text b h₂ l₂ b₂ r : List ℕ} {a : Result Next Refusal} → limits ≡ standard → Promises limits text h' l' b h₂ l₂ b₂ r a → Promises standard text h l b h₂ l₂ b₂ r a
   scan_calls i p = rw (i, (g.stays e).0, (g.stays e).1) at p

@@ -1,82 +1,84 @@
 -- What the parts of a call leave in the words that they are lent, and what they answer.
-use Prim.Native.Nat.{◌*◌, ◌+◌, ◌-◌, ◌<◌, ◌≤◌, ℕ}
-use mathlib.Core.Bool.{false, true}
-use mathlib.Core.List.{List, append-nil}
-use mathlib.Core.Path.{◌∙◌, ◌≡◌, ap, sym}
+use Prim.Native.Nat.{◌*◌, ◌+◌, ◌-◌, ◌<◌, ◌≤◌, suc, zero, ℕ}
+use mathlib.Core.Bool.{Bool, false, true}
+use mathlib.Core.List.{List}
+use mathlib.Core.Path.{◌∙◌, ◌≡◌, ap, refl, sym}
 use native.Mathlib.Omega.{arith}
 use lib.Dec.{eqb, ltb}
-use lib.ListN.{drop, drop_of_length-le, length, length-drop, set}
-use lib.Seq.{get_or-set_other, length-take-le, sets, sets-eq}
+use lib.ListN.{length, set}
+use lib.Seq.{get_or-set_other, sets}
 use borrow.Author.Tests.{le-ltb, lt-ltb, ltb-false, ltb-true, ne_eqb}
 use Rattle.yaml_text.specs.declared.Refusal.{Refusal}
 use Rattle.yaml_text.specs.Test.{by_test, true_false}
+use Rattle.yaml_lexeme.specs.declared.Kind.{Kind}
 use Rattle.yaml_lexeme.specs.declared.Kind.TheVariants as held
-use Rattle.yaml_lexeme.specs.Record.{laid, number_of, record_words}
+use Rattle.yaml_lexeme.specs.Record.{laid, number_of, record_words, values_of}
 use Rattle.yaml_stream.specs.Stream.{least_records}
-use Rattle.rooms.specs.Room.{cleared}
+use Rattle.std.specs.Prelude.{Option, Some, None, Ok, Err}
+use Rattle.stacks.specs.Bit.{bit}
 use Rattle.stacks.specs.Most.{at_most, at_most_fits}
+use Rattle.records.specs.declared.noted.Noted.{Noted}
 use Rattle.records.specs.Note.{empty_at, note_in, noted_word}
+use Rattle.records.specs.Noted.{first_noted, noted, noted_number, rest_noted}
 use Rattle.sink.specs.Settle.{opener}
 use Rattle.events.specs.declared.Counts.{Counts}
 use Rattle.driver.specs.Held.{base_at, counts_at, phase_at, slot_at, until_at, word}
 use Rattle.stream.specs.declared.Next.TheVariants as next
-use Rattle.stream.specs.Words.{Gives, close_held, first_at, first_number, front_base, front_held, front_words, has_some, last_held, no_token, note_left, own, record_from, refusal_held, slot_held, token_words, words_left}
+use Rattle.stream.specs.Words.{Gives, close_held, first_at, first_number, front_base, front_held, front_words, has_some, last_held, note_left, own, record_from, refusal_held, slot_held, token_words, words_left}
 
--- a whole record is written over
-pub sets_all : (t x : List ℕ) → length x ≡ length t → sets t 0 x ≡ x
-sets_all t x e = sets-eq x t 0 (omega arith) ∙ rw (drop_of_length-le t {i = 0 + length x} (omega arith)) (append-nil x)
+-- a token is given: what the note n says goes in first, and what is left then
 
-pub token_cleared : (t : List ℕ) → length t ≡ record_words → cleared t 0 ≡ no_token
-token_cleared t e = let f : length t - 0 ≡ record_words = omega arith in rw f
-
--- the kind that goes in first
-
-pub number_key : (n k : ℕ) → n ≡ 1 → k ≡ number_of held.Key → k ≡ first_number n
-unfolding first_number laid
-number_key n k e f = rw e f
-
-pub number_pair : (n k : ℕ) → n ≡ 2 → k ≡ number_of held.FlowMappingStart → k ≡ first_number n
-unfolding first_number opener laid
-number_pair n k e f = rw e f
-
-pub number_block : (n k : ℕ) → (n ≡ 1 → ⊥) → (n ≡ 2 → ⊥) → k ≡ number_of held.BlockMappingStart → k ≡ first_number n
-unfolding first_number opener laid
-number_block n k d e f = rw (ne_eqb n 1 d, ne_eqb n 2 e, opener) f
-
--- a token is given
-
-pub note_left_small : (n : ℕ) → note_left n ≤ 3
-unfolding note_left
-note_left_small n = by_test (ltb 1 n) (λ e. rw e (omega arith)) (λ e. rw e (omega arith))
-
-pub own_small : (n : ℕ) → own n ≤ 1
+own_is : (n : ℕ) → bit (eqb n 0) ≡ own n
 unfolding own
-own_small n = by_test (eqb n 0) (λ e. rw e (omega arith)) (λ e. rw e (omega arith))
+own_is n = by_test (eqb n 0) (λ e. rw e) (λ e. rw e)
 
-module _ (l t : List ℕ) (at : ℕ) (n : ℕ) (x : List ℕ) (room : at + record_words ≤ length l) (whole : length t ≡ record_words) (e : x ≡ record_from l at) (f : n ≡ note_in x) where
+none_first : (n : ℕ) → first_noted (noted n) ≡ None → n ≡ 0
+none_first zero e = refl
+none_first (suc zero) e = absurd (cc)
+none_first (suc (suc zero)) e = absurd (cc)
+none_first (suc (suc (suc n))) e = absurd (cc)
+
+record PutFirst (n : ℕ) (k : Kind) : Type 0 where
+  some : n ≡ 0 → ⊥
+  number : number_of k ≡ first_number n
+  left : noted_number (rest_noted (noted n)) ≡ note_left n
+
+put_first : (n : ℕ) {k : Kind} → first_noted (noted n) ≡ Some k → PutFirst n k
+unfolding first_number opener laid note_left number_of values_of
+put_first zero e = absurd (cc)
+put_first (suc zero) {k} e = let f : k ≡ held.Key = cc in record { some = λ i. omega arith; number = rw f; left = refl }
+put_first (suc (suc zero)) {k} e = let f : k ≡ held.FlowMappingStart = cc in record { some = λ i. omega arith; number = rw f; left = refl }
+put_first (suc (suc (suc n))) {k} e =
+    let f : k ≡ held.BlockMappingStart = cc in
+    let o : ltb 1 (suc (suc (suc n))) ≡ true = lt-ltb 1 (suc (suc (suc n))) (omega arith) in
+    record {
+      some = λ i. omega arith;
+      number = rw (f, ne_eqb (suc (suc (suc n))) 1 (λ i. omega arith), ne_eqb (suc (suc (suc n))) 2 (λ i. omega arith));
+      left = rw o;
+    }
+
+module _ (l : List ℕ) (at : ℕ) {n : ℕ} {x : List ℕ} {w : Noted} {o : Option Kind} (e : x ≡ record_from l at) (f : n ≡ note_in x) (noted_is : w ≡ noted n) (first_is : o ≡ first_noted w) where
   abbrev first : List ℕ
   first = record_from l at
-
-  first_length : length first ≡ record_words
-  first_length = length-take-le record_words (drop at l) (omega (arith, length-drop at l))
 
   note_is : note_in first ≡ n
   note_is = ap (λ (y : List ℕ). note_in y) (sym e) ∙ sym f
 
-  pub give_own : {t' : List ℕ} → n ≡ 0 → t' ≡ sets t 0 x → (1 ≡ own (note_in first)) × (t' ≡ token_words first) × (l ≡ words_left l at (note_in first))
-  unfolding own token_words words_left
-  give_own z g =
-      let k = note_is ∙ z in
-      (rw k, g ∙ ap (λ (y : List ℕ). sets t 0 y) e ∙ sets_all t first (first_length ∙ sym whole) ∙ rw k, rw k)
+  pub give_own : o ≡ None → (true ≡ eqb (note_in first) 0) × (x ≡ token_words first) × (l ≡ words_left l at (note_in first))
+  unfolding token_words words_left
+  give_own z =
+      let k = note_is ∙ none_first n (rw (first_is, noted_is) at z) in
+      (rw k, e ∙ rw k, rw k)
 
-  pub give_part : {t' l' y : List ℕ} {k w : ℕ} → (n ≡ 0 → ⊥) → k ≡ first_number n → y ≡ empty_at k x → t' ≡ sets t 0 y → w ≡ note_left n → l' ≡ set l at (noted_word l at w)
-      → (0 ≡ own (note_in first)) × (t' ≡ token_words first) × (l' ≡ words_left l at (note_in first))
-  unfolding own token_words words_left
-  give_part {k = k} z p q g i j =
-      let o = ne_eqb n 0 z in (
-        rw (note_is, o),
-        g ∙ ap (λ (y : List ℕ). sets t 0 y) q ∙ sets_all t (empty_at k x) (sym whole) ∙ ap (λ (y : ℕ). empty_at y x) p ∙ ap (λ (y : List ℕ). empty_at (first_number n) y) e ∙ rw (note_is, o),
-        j ∙ rw (i, note_is, o),
+  pub give_part : {l' y : List ℕ} {k : Kind} {v : Noted} → o ≡ Some k → y ≡ empty_at (number_of k) x → v ≡ rest_noted w → l' ≡ set l at (noted_word l at (noted_number v))
+      → (false ≡ eqb (note_in first) 0) × (y ≡ token_words first) × (l' ≡ words_left l at (note_in first))
+  unfolding token_words words_left
+  give_part z p q g =
+      let m = put_first n (rw (first_is, noted_is) at z) in
+      let i = ne_eqb n 0 m.some in (
+        rw (note_is, i),
+        p ∙ ap (λ (j : ℕ). empty_at j x) m.number ∙ ap (λ (y : List ℕ). empty_at (first_number n) y) e ∙ rw (note_is, i),
+        g ∙ rw (q, noted_is, m.left, note_is, i),
       )
 
 -- of the slot that is held
@@ -84,10 +86,10 @@ module _ (l t : List ℕ) (at : ℕ) (n : ℕ) (x : List ℕ) (room : at + recor
 pub slot_fits : (h l : List ℕ) → least_records * record_words ≤ length l → first_at h + record_words ≤ length l
 slot_fits h l e = omega (arith, at_most_fits (least_records - 1) (word h slot_at))
 
-pub gives_first : (h l : List ℕ) {h' l' r : List ℕ} {k slot : ℕ} → slot ≡ slot_held h
-    → (k ≡ own (note_in (record_from l (slot * record_words)))) × (r ≡ token_words (record_from l (slot * record_words))) × (l' ≡ words_left l (slot * record_words) (note_in (record_from l (slot * record_words))))
-    → h' ≡ set h slot_at (slot + k) → Gives h l h' l' r
-gives_first h l e g f = record { token = rw e at g.1; words = rw e at g.2; held = f ∙ rw (g.0, e) }
+pub gives_first : (h l : List ℕ) {h' l' r : List ℕ} {k : Bool} {slot : ℕ} → slot ≡ slot_held h
+    → (k ≡ eqb (note_in (record_from l (slot * record_words))) 0) × (r ≡ token_words (record_from l (slot * record_words))) × (l' ≡ words_left l (slot * record_words) (note_in (record_from l (slot * record_words))))
+    → h' ≡ set h slot_at (slot + bit k) → Gives h l h' l' r
+gives_first h l e g f = record { token = rw e at g.1; words = rw e at g.2; held = f ∙ rw (g.0, e, own_is (note_in (record_from l (first_at h)))) }
 
 -- to the front
 
@@ -140,18 +142,10 @@ none_told h n s o = ltb-false (word h slot_at) (word h until_at) (has_asked h n 
 
 -- what is said where none can
 
-pub last_ended : (h : List ℕ) → word h phase_at ≡ 2 → next.Ended ≡ last_held h
+pub last_ended : (h : List ℕ) → word h phase_at ≡ 2 → Ok next.Ended ≡ last_held h
 unfolding last_held
 last_ended h e = rw e
 
-pub last_refused : (h : List ℕ) {f : Refusal} → (word h phase_at ≡ 2 → ⊥) → f ≡ refusal_held h → next.Refused f ≡ last_held h
+pub last_refused : (h : List ℕ) {f : Refusal} → (word h phase_at ≡ 2 → ⊥) → f ≡ refusal_held h → Err f ≡ last_held h
 unfolding last_held
 last_refused h d e = rw (ne_eqb (word h phase_at) 2 d, e)
-
-pub note_some : (n : ℕ) → 1 < n → 1 ≡ note_left n
-unfolding note_left
-note_some n h = rw (lt-ltb 1 n h)
-
-pub note_none : (n : ℕ) → n ≤ 1 → 0 ≡ note_left n
-unfolding note_left
-note_none n h = rw (le-ltb 1 n h)

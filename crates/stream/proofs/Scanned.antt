@@ -4,6 +4,7 @@ use Prim.Native.Nat.{◌*◌, ◌+◌, ◌-◌, ◌<◌, ◌≤◌, suc, zero, �
 use mathlib.Core.Bool.{false, true}
 use mathlib.Core.List.{List, [], ◌++◌, ◌∷◌, append-nil}
 use mathlib.Core.Path.{◌∙◌, ◌≡◌, ap, refl, subst, sym}
+use Rattle.std.specs.Prelude.{Result, Ok, Err}
 use native.Mathlib.Omega.{arith}
 use lib.ListN.{drop, get_or, length, length-append, length-set, length-take, set, take, take-append-drop}
 use lib.Seq.{get_or-drop, get_or-set_other, get_or-set_same, length-take-le}
@@ -36,7 +37,7 @@ use Rattle.stream_laws.specs.Laid.{Laid, laid_first, laid_then, used_then}
 use Rattle.stream_laws.specs.Loop.{call_finds}
 use Rattle.stream_laws.specs.Sought.{Finds, Setting, brings_texts, level_from, test}
 use Rattle.driver.specs.declared.Outcome.{Outcome}
-use Rattle.driver.specs.declared.Outcome.TheVariants.{Ready, Scanned, Stopped}
+use Rattle.driver.specs.declared.Outcome.TheVariants.{Ready, Scanned}
 use Rattle.driver.specs.Drives.{Drives, PausesAs, StopsAs, base_held, drives}
 use Rattle.driver.specs.Held.{Modest, base_at, counts_held, held_words, level_at, pending_held, phase_at, put_until, seen_held, slot_at, until_at, word}
 use Rattle.stream.specs.Holds.{Holds, Lent, Scans, Waits, breaks, closes, scans}
@@ -253,11 +254,11 @@ module _ (limits : Limits) (text h l b gone : List ℕ) (s : definition.State) (
   pub scans_on : (h' l' b' : List ℕ) → ScansOn limits text h l b h' l' b' → Onward limits text h' l' b' gone x
   scans_on h' l' b' w = by_outcome w.outcome w.steps w.then
     where
-      by_outcome : (o : Outcome) → Drives limits true text h1 l1 b w.held l' b' o → h' ≡ then_held w.held o → Onward limits text h' l' b' gone x
-      by_outcome (Stopped f) d i =
+      by_outcome : (o : Result Outcome Refusal) → Drives limits true text h1 l1 b w.held l' b' o → h' ≡ then_held w.held o → Onward limits text h' l' b' gone x
+      by_outcome (Err f) d i =
           stopped h' l' b' w.held w.same_words w.same_bytes f (subst (λ (k : ℕ). StopsAs (drives limits true text (length b) h1) k c1 f h1 l1 b w.held l' b') base1 d) i
-      by_outcome (Scanned k) d i =
+      by_outcome (Ok (Scanned k)) d i =
           scanned h' l' b' w.held w.same_words w.same_bytes k d.0.said d.0.same (subst (λ (j : ℕ). Stored j c1 k l1 b l' b' d.0.said) base1 d.0.stored) d.1 d.2 i
-      by_outcome Ready d i =
+      by_outcome (Ok Ready) d i =
           paused h' l' b' w.held w.same_words w.same_bytes
           (subst (λ (k : ℕ). PausesAs limits text (drives limits true text (length b) h1) k c1 h1 l1 b w.held l' b') base1 d) i

@@ -3,11 +3,13 @@ use Prim.Native.Nat.{◌-◌, ◌/◌, ◌<◌, ◌≤◌, ℕ}
 use mathlib.Core.Bool.{false}
 use mathlib.Core.List.{List, [], ◌∷◌}
 use mathlib.Core.Path.{◌∙◌, ◌≡◌, ap, refl, subst, sym}
+use Rattle.std.specs.Prelude.{Result, Ok}
 use native.Mathlib.Omega.{arith}
 use lib.Dec.{ltb}
 use lib.ListN.{get_or-replicate, length, length-replicate, length-set, set}
 use lib.Seq.{get_or-set_other, get_or-set_same, get_or-take, length-take-le}
 use borrow.Author.Tests.{ltb-false}
+use Rattle.yaml_text.specs.declared.Refusal.{Refusal}
 use Rattle.yaml_text.specs.declared.Mark.{Mark}
 use Rattle.yaml_text.specs.Refusal.{Read, got, refused}
 use Rattle.yaml_text.specs.Mark.{origin}
@@ -160,7 +162,7 @@ module _ (limits : Limits) (text h : List ℕ) (m : Modest limits) (short : leng
           lent = record { short = ltb-false limits.bytes (length text) fits; records = ltb-false (length l / record_words) least_records many };
         }
 
-    pub started : {h' r : List ℕ} {a : Next} → a ≡ next.Token → h' ≡ begun_held h → r ≡ record_of (empty_of kind.StreamStart origin)
+    pub started : {h' r : List ℕ} {a : Result Next Refusal} → a ≡ Ok next.Token → h' ≡ begun_held h → r ≡ record_of (empty_of kind.StreamStart origin)
         → Calls limits text b h' l b r a [] (fresh limits text (length l))
     unfolding laid kind_bytes flat
     started {h'} {r} {a} i e k = rw (fresh_is, e) (record {
@@ -169,13 +171,13 @@ module _ (limits : Limits) (text h : List ℕ) (m : Modest limits) (short : leng
     })
 
 -- a refusal
-fresh_broken : (limits : Limits) (text h h' l b r : List ℕ) {a : Next} (k : ℕ) (m : Mark) → length h ≡ held_words → fresh limits text (length l) ≡ broken k m
+fresh_broken : (limits : Limits) (text h h' l b r : List ℕ) {a : Result Next Refusal} (k : ℕ) (m : Mark) → length h ≡ held_words → fresh limits text (length l) ≡ broken k m
     → Starts h h' r a (broken k m) → Calls limits text b h' l b r a [] (fresh limits text (length l))
 fresh_broken limits text h h' l b r {a} k m all e w =
     broken_answer (fresh limits text (length l)) (ap (λ (x : Stream). call limits (length b) x) e ∙ refused_again limits (length b) k m)
     (rw w.1 (refused_breaks h (record { number = k; mark = m }) all l b)) w.0 w.2
 
-pub starts_calls : (limits : Limits) (text h h' l b r : List ℕ) (a : Next) → Modest limits → length h ≡ held_words
+pub starts_calls : (limits : Limits) (text h h' l b r : List ℕ) (a : Result Next Refusal) → Modest limits → length h ≡ held_words
     → Starts h h' r a (fresh limits text (length l)) → Calls limits text b h' l b r a [] (fresh limits text (length l))
 unfolding fresh begun
 starts_calls limits text h h' l b r a m all w =

@@ -1,3 +1,4 @@
+pub mod Phase
 pub mod Words
 pub mod Start
 pub mod ScansOn

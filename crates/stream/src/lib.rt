@@ -2,6 +2,7 @@
 #![tactic(auto)]
 
 mod give;
+mod phase;
 mod start;
 
 ghost use Rattle.std.specs.Prelude.{◌*◌, ◌<◌, ◌≤◌, false, ◌≡◌, length};
@@ -9,18 +10,17 @@ ghost use Rattle.yaml_lexeme.specs.Record.{record_words};
 ghost use Rattle.yaml_scan.specs.Scan.{standard};
 ghost use Rattle.yaml_stream.specs.Stream.{least_records};
 ghost use Rattle.stream.specs.Holds.{Promises};
-ghost use Rattle.driver.specs.Held.{Modest, held_words, phase_at, word};
+ghost use Rattle.driver.specs.Held.{Modest, phase_at, word};
 ghost use Rattle.stream.specs.ScansOn.{ScansOn};
 ghost use Rattle.stream.specs.Words.{MayGive, close_held, has_some, last_held, no_token};
 
 use crate::give::{give_first, to_front};
-use crate::start::{held_refusal, hold_refusal, outside, refused, start};
+use crate::phase::Phase;
+use crate::start::{held_refusal, hold_refusal, refused, start};
 use driver::held::{BASE, HELD_WORDS, PHASE, SLOT, UNTIL};
-use driver::{Outcome, all_steps, standard};
+use driver::{Outcome, all_steps, outside, standard};
 use events::Counts;
 use records::RECORD_WORDS;
-use rooms::clear_words_from;
-use stacks::at_most;
 use yaml_scan::Limits;
 use yaml_text::Refusal;
 
@@ -40,8 +40,8 @@ pub const LEAST_RECORDS: usize = 4_400;
 fn close(held: &mut [u32; HELD_WORDS], m: Counts)
     ensures { held.new ≡ close_held held.old m }
 {
-    held[PHASE] = 2;
-    held[UNTIL] = m.count - at_most(m.count, held[BASE]);
+    held[PHASE] = Phase::Closed as u32;
+    held[UNTIL] = m.count - held[BASE].min(m.count);
 }
 
 // Whether a token can be given.
@@ -69,15 +69,21 @@ fn gives(held: &mut [u32; HELD_WORDS], words: &mut [u32], token: &mut [u32; RECO
 fn last_answer(held: &[u32; HELD_WORDS], token: &mut [u32; RECORD_WORDS]) -> Result<Next, Refusal>
     ensures { (result ≡ last_held held.now) × (token.new ≡ no_token) }
 {
-    clear_words_from(token, 0);
-    if held[PHASE] == 2 {
-        return Ok(Next::Ended);
+    token.fill(0);
+    match Phase::from(held[PHASE]) {
+        Phase::Closed => Ok(Next::Ended),
+        _ => Err(held_refusal(held)),
     }
-    Err(held_refusal(held))
 }
 
 // Steps, as many as are made at once; what they come to is held.
-fn scan_on(limits: Limits, held: &mut [u32; HELD_WORDS], text: &[u8], words: &mut [u32], bytes: &mut [u8])
+fn scan_on(
+    limits: Limits,
+    held: &mut [u32; HELD_WORDS],
+    text: &[u8],
+    words: &mut [u32],
+    bytes: &mut [u8],
+)
     requires { Modest limits × (length text.now ≤ limits.bytes) × (least_records * record_words ≤ length words.old) }
     ensures { ScansOn limits text.now held.old words.old bytes.old held.new words.new bytes.new }
 {
@@ -94,7 +100,7 @@ fn scan_on(limits: Limits, held: &mut [u32; HELD_WORDS], text: &[u8], words: &mu
     }
 }
 
-// A call where nothing can be given yet, behind the first. 1 and 52 come here only where text or words are others than before.
+// A call where more has to be scanned, behind the first. 1 and 52 come here only where text or words are others than before.
 fn go_on(
     limits: Limits,
     held: &mut [u32; HELD_WORDS],
@@ -103,12 +109,9 @@ fn go_on(
     bytes: &mut [u8],
     token: &mut [u32; RECORD_WORDS],
 ) -> Result<Next, Refusal>
-    requires { Modest limits × (1 ≤ limits.entries) × (0 < word held.old phase_at) × (has_some held.old (length words.old) ≡ false) }
+    requires { Modest limits × (1 ≤ limits.entries) × (word held.old phase_at ≡ 1) × (has_some held.old (length words.old) ≡ false) }
     ensures { Promises limits text.now held.old words.old bytes.old held.new words.new bytes.new token.new result }
 {
-    if held[PHASE] != 1 {
-        return last_answer(held, token);
-    }
     if limits.bytes < text.len() {
         return refused(held, token, outside(1));
     }
@@ -122,7 +125,7 @@ fn go_on(
     last_answer(held, token)
 }
 
-// A call where nothing can be given at once. It has two callers, and stands apart from them: so giving a token stays short there.
+// A call where nothing can be given at once. It stands apart from its caller: so giving a token stays short there.
 fn next_scanned(
     limits: Limits,
     held: &mut [u32; HELD_WORDS],
@@ -134,10 +137,11 @@ fn next_scanned(
     requires { Modest limits × (1 ≤ limits.entries) × (has_some held.old (length words.old) ≡ false) }
     ensures { Promises limits text.now held.old words.old bytes.old held.new words.new bytes.new token.new result }
 {
-    if held[PHASE] == 0 {
-        return start(limits, held, text, words, token);
+    match Phase::from(held[PHASE]) {
+        Phase::Fresh => start(limits, held, text, words, token),
+        Phase::Scanning => go_on(limits, held, text, words, bytes, token),
+        _ => last_answer(held, token),
     }
-    go_on(limits, held, text, words, bytes, token)
 }
 
 // The next token of a text. What is held is all zero at first; held, text, words and bytes are those of the call before.

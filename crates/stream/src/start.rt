@@ -1,48 +1,33 @@
 // The first call, and refusals.
 ghost use Rattle.std.specs.Prelude.{◌≡◌, length};
-ghost use Rattle.yaml_lexeme.specs.Record.{record_words};
 ghost use Rattle.yaml_text.specs.Mark.{origin};
 ghost use Rattle.yaml_stream.specs.Stream.{fresh};
-ghost use Rattle.driver.specs.Held.{Modest, held_words};
+ghost use Rattle.driver.specs.Held.{Modest};
 ghost use Rattle.stream.specs.Start.{Starts, begun_held};
 ghost use Rattle.stream.specs.Words.{no_token, put_refusal, refusal_held, refused_held};
 ghost use Rattle.yaml_lexeme.specs.declared.Kind.TheVariants as kind;
 ghost use Rattle.yaml_lexeme.specs.Record.{record_of};
 ghost use Rattle.events.specs.Event.{empty_of};
 
+use crate::phase::Phase;
 use crate::{LEAST_RECORDS, Next};
 use driver::held::{BASE, HELD_WORDS, MARK, NUMBER, PHASE, SLOT, UNTIL, store_counts, store_state};
+use driver::outside;
 use events::Counts;
+use records::RECORD_WORDS;
 use records::token::record_of;
-use records::{RECORD_WORDS, store};
-use rooms::clear_words_from;
 use states::State;
-use validity::{Checked, check_text};
+use validity::check_text;
 use yaml_lexeme::{Kind, Token};
 use yaml_scan::Limits;
 use yaml_text::{Mark, Refusal};
-
-// A refusal that has no place in the text.
-pub(crate) fn outside(number: u32) -> Refusal
-    ensures { result ≡ record { number = number; mark = origin } }
-{
-    let m = Mark {
-        index: 0,
-        line: 1,
-        col: 0,
-    };
-    Refusal {
-        number: number,
-        mark: m,
-    }
-}
 
 // A refusal is held, which stands for ever.
 pub(crate) fn hold_refusal(held: &mut [u32; HELD_WORDS], f: Refusal)
     ensures { held.new ≡ put_refusal held.old f }
 {
     let m = f.mark;
-    held[PHASE] = 3;
+    held[PHASE] = Phase::Refused as u32;
     held[MARK] = m.index;
     held[MARK + 1] = m.line;
     held[MARK + 2] = m.col;
@@ -53,25 +38,29 @@ pub(crate) fn hold_refusal(held: &mut [u32; HELD_WORDS], f: Refusal)
 pub(crate) fn held_refusal(held: &[u32; HELD_WORDS]) -> Refusal
     ensures { result ≡ refusal_held held.now }
 {
-    let m = Mark {
+    let mark = Mark {
         index: held[MARK],
         line: held[MARK + 1],
         col: held[MARK + 2],
     };
     Refusal {
         number: held[NUMBER],
-        mark: m,
+        mark,
     }
 }
 
 // A refusal where nothing can be given.
-pub(crate) fn refused(held: &mut [u32; HELD_WORDS], token: &mut [u32; RECORD_WORDS], f: Refusal) -> Result<Next, Refusal>
+pub(crate) fn refused(
+    held: &mut [u32; HELD_WORDS],
+    token: &mut [u32; RECORD_WORDS],
+    f: Refusal,
+) -> Result<Next, Refusal>
     ensures { (result ≡ Err f) × (held.new ≡ refused_held held.old f) × (token.new ≡ no_token) }
 {
     hold_refusal(held, f);
     held[SLOT] = 0;
     held[UNTIL] = 0;
-    clear_words_from(token, 0);
+    token.fill(0);
     Err(f)
 }
 
@@ -79,7 +68,7 @@ pub(crate) fn refused(held: &mut [u32; HELD_WORDS], token: &mut [u32; RECORD_WOR
 fn begin(held: &mut [u32; HELD_WORDS], token: &mut [u32; RECORD_WORDS])
     ensures { (held.new ≡ begun_held held.old) × (token.new ≡ record_of (empty_of kind.StreamStart origin)) }
 {
-    clear_words_from(held, 0);
+    held.fill(0);
     let s = State::begin();
     let n = Counts {
         count: 1,
@@ -88,15 +77,14 @@ fn begin(held: &mut [u32; HELD_WORDS], token: &mut [u32; RECORD_WORDS])
     };
     store_state(held, s);
     store_counts(held, n);
-    held[PHASE] = 1;
+    held[PHASE] = Phase::Scanning as u32;
     held[BASE] = 1;
     let m = s.place.mark;
-    let t = Token {
+    *token = record_of(Token {
         kind: Kind::StreamStart,
         start: m,
         end: m,
-    };
-    store(token, 0, &record_of(t));
+    });
 }
 
 // 1; 2 or 3, of the whole text; then 52; else StreamStart.
@@ -113,8 +101,7 @@ pub(crate) fn start(
     if limits.bytes < text.len() {
         return refused(held, token, outside(1));
     }
-    let c = check_text(text);
-    if let Checked::Refused(f) = c {
+    if let Err(f) = check_text(text) {
         return refused(held, token, f);
     }
     if words.len() / RECORD_WORDS < LEAST_RECORDS {

@@ -8,7 +8,7 @@ use Rattle.driver.proofs.behind_one.Goals as goal
 pub returns-then-room-k : goal.returns-then-room-k
 returns-then-room-k c =
     let a = c.args in
-    rw (c.refuse.ensures, c.origin.ensures) (one_full a.room a.base a.w a.level a.stacks.now a.t.flow_level a.t.place.mark a.k c.if-room-k.true)
+    rw c.outside.ensures (one_full a.room a.base a.w a.level a.stacks.now a.t.flow_level a.t.place.mark a.k c.if-room-k.true)
 
 pub returns-then-is_named : goal.returns-then-is_named
 returns-then-is_named c =

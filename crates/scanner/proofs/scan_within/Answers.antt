@@ -6,19 +6,15 @@ use Rattle.scanner.proofs.scan_within.Goals as goal
 pub lent-requires : goal.lent-requires
 lent-requires c =
     let a = c.args in
-    settles a.limits a.text.now c.in-Scanned.ensures c.outcome-o.auto.words
+    settles a.limits a.text.now c.in-Ok.ensures c.outcome.auto.words
 
-pub returns-in-Stopped : goal.returns-in-Stopped
-returns-in-Stopped c =
+pub returns-in-Ok : goal.returns-in-Ok
+returns-in-Ok c =
     let a = c.args in
-    stopped_answer a.limits a.text.now c.in-Stopped.ensures c.refused.ensures
+    let kept = c.outcome.auto in
+    c.lent.ensures ∙ answered a.limits a.text.now c.in-Ok.ensures kept.words kept.bytes
 
-pub returns-in-Scanned : goal.returns-in-Scanned
-returns-in-Scanned c =
+pub returns-in-Err : goal.returns-in-Err
+returns-in-Err c =
     let a = c.args in
-    let kept = c.outcome-o.auto in
-    c.lent.ensures ∙ answered a.limits a.text.now c.in-Scanned.ensures kept.words kept.bytes
-
--- a run never pauses
-pub returns-in-Ready : goal.returns-in-Ready
-returns-in-Ready c = absurd c.in-Ready.ensures
+    stopped_answer a.limits a.text.now c.in-Err.ensures c.clears.ensures

@@ -6,7 +6,7 @@ use Rattle.stream.proofs.Lends.{some_told}
 use Rattle.stream.proofs.gives.Goals as goal
 
 pub give_first-requires : goal.give_first-requires
-give_first-requires c = (c.requires.0, (some_told c.args.held.now (length c.args.words.now) (sym c.has_some.ensures ∙ c.if-has_some.true)).0, c.requires.1)
+give_first-requires c = (some_told c.args.held.now (length c.args.words.now) (sym c.has_some.ensures ∙ c.if-has_some.true)).0
 
 pub returns-then-has_some : goal.returns-then-has_some
 returns-then-has_some c =
