@@ -84,29 +84,3 @@ only_comma Stray b k1 k2 k3 k4 = true_false (sym b)
 only_comma (AtMarker starts) b k1 k2 k3 k4 = true_false (sym b)
 only_comma AtQuestion b k1 k2 k3 k4 = true_false (sym b)
 only_comma AtColon b k1 k2 k3 k4 = true_false (sym b)
-
--- of `is_brief`: what is not brief
-pub not_brief : (c : Choice)
-    → (c ≡ AtPlain → ⊥)
-    → (c ≡ AtDash → ⊥)
-    → ((sequence : Bool) → c ≡ Opens sequence → ⊥)
-    → ((sequence : Bool) → c ≡ Closes sequence → ⊥)
-    → (c ≡ AtComma → ⊥)
-    → false ≡ is_brief c
-not_brief AtDirective k1 k2 k3 k4 k5 = refl
-not_brief AtTag k1 k2 k3 k4 k5 = refl
-not_brief (AtAnchor alias) k1 k2 k3 k4 k5 = refl
-not_brief (AtBlock literal) k1 k2 k3 k4 k5 = refl
-not_brief (AtQuoted single) k1 k2 k3 k4 k5 = refl
-not_brief AtPlain k1 k2 k3 k4 k5 = absurd (k1 refl)
-not_brief AtDash k1 k2 k3 k4 k5 = absurd (k2 refl)
-not_brief AtComma k1 k2 k3 k4 k5 = absurd (k5 refl)
-not_brief (Opens sequence) k1 k2 k3 k4 k5 = absurd (k3 sequence refl)
-not_brief (Closes sequence) k1 k2 k3 k4 k5 = absurd (k4 sequence refl)
-not_brief AtEnd k1 k2 k3 k4 k5 = refl
-not_brief AtByteOrderMark k1 k2 k3 k4 k5 = refl
-not_brief BelowIndent k1 k2 k3 k4 k5 = refl
-not_brief Stray k1 k2 k3 k4 k5 = refl
-not_brief (AtMarker starts) k1 k2 k3 k4 k5 = refl
-not_brief AtQuestion k1 k2 k3 k4 k5 = refl
-not_brief AtColon k1 k2 k3 k4 k5 = refl

@@ -73,14 +73,14 @@ pub fn fetch_other(
 pub fn is_brief(c: Choice) -> bool
     ensures { result ≡ is_brief c }
 {
-    match c {
-        Choice::AtPlain => true,
-        Choice::AtDash => true,
-        Choice::Opens { sequence: _ } => true,
-        Choice::Closes { sequence: _ } => true,
-        Choice::AtComma => true,
-        _ => false,
-    }
+    matches!(
+        c,
+        Choice::AtPlain
+            | Choice::AtDash
+            | Choice::Opens { .. }
+            | Choice::Closes { .. }
+            | Choice::AtComma
+    )
 }
 
 // A lexeme that is brief.
