@@ -149,6 +149,11 @@ none_length flow blank s at (Char c n) e k = absurd (k c n refl)
 none_length flow blank s at Ill e k = rw (← e)
 none_length flow blank s at End e k = rw (← e)
 
+-- the cases of `stops` and of `text_length`
+pub ruleset by_char = (stop_flow, stop_colon, stop_hash, stop_other)
+
+pub ruleset by_byte = (low_stops, low_goes, high_goes, high_stops, none_length, usual_goes)
+
 -- a character of n bytes that is text
 pub record IsText (flow blank : Bool) (s : List ℕ) (at n : ℕ) : Type 0 where
   pub char : ℕ

@@ -42,8 +42,9 @@ fn is_blank_byte(b: u8) -> bool
     is_blank(b as u32)
 }
 
-// Whether a plain scalar ends at the byte b below 128 that stands at a place. blank: after a blank.
-#[tactic(auto, using(crate::proofs::Ends::stop_flow, crate::proofs::Ends::stop_colon, crate::proofs::Ends::stop_hash, crate::proofs::Ends::stop_other))]
+// Whether a plain scalar ends at the byte b below 128 that stands at a place. blank: after a blank. Text, offset and byte stay apart, here and below, as
+// the loop has them: a slice from the offset on would be made anew in each turn.
+#[tactic(auto, using(crate::proofs::Ends::by_char))]
 fn stops(text: &[u8], at: usize, flow: bool, blank: bool, b: u8) -> bool
     requires { (at ≤ length text.now) × (b < 128) }
     ensures { result ≡ plain_stops flow blank b (peek (chars (drop (at + 1) text.now)) 0) }
@@ -86,7 +87,7 @@ fn is_usual(text: &[u8], at: usize, b: u8) -> bool
 }
 
 // How many bytes the character takes that begins with the byte b at a place, if it is text.
-#[tactic(auto, using(crate::proofs::Ends::low_stops, crate::proofs::Ends::low_goes, crate::proofs::Ends::high_goes, crate::proofs::Ends::high_stops, crate::proofs::Ends::none_length, crate::proofs::Ends::usual_goes))]
+#[tactic(auto, using(crate::proofs::Ends::by_byte))]
 fn text_length(text: &[u8], at: usize, flow: bool, blank: bool, b: u8) -> Option<usize>
     requires { (at ≤ length text.now) × (b ≡ get_or text.now at 0) }
     ensures { result ≡ text_length flow blank text.now at }

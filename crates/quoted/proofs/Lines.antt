@@ -50,3 +50,6 @@ module _ (text : List ℕ) (q : Quote) (p : Place) (mode : Mode) {b k : ℕ} {h 
       pub held_none : q.indent ≤ edge_of p.mark → Ok tt ≡ told
       unfolding line_held
       held_none v = rw (held, t, u, le-ltb (edge_of p.mark) q.indent v)
+
+-- the cases of `check_line`
+pub ruleset by_line = (held_free, held_marker, held_none, held_short)

@@ -200,7 +200,7 @@ fn on_char(text: &[u8], q: Quote, w: Written, out: &mut [u8]) -> Result<Turned, 
 }
 
 // Whether the text here may stand in its line, where it is held against that. 33: a document marker; 35: a column below the indent.
-#[tactic(auto, using(crate::proofs::Lines::held_free, crate::proofs::Lines::held_marker, crate::proofs::Lines::held_none, crate::proofs::Lines::held_short))]
+#[tactic(auto, using(crate::proofs::Lines::by_line))]
 fn check_line(text: &[u8], q: Quote, p: Place, mode: Mode) -> Result<(), Refusal>
     requires { Small p }
     ensures { result ≡ line_held (quote_of q) mode p.mark (chars (drop p.at text.now)) }
