@@ -57,19 +57,6 @@ sets_at t l n h =
     let v = rw (take-append-drop, length-take-le n l h, m) at w in
     rw (drop_of_length-le (drop n l) k, append-nil) (sym v)
 
--- one store more of a text, from its front: what is left gives the whole
-pub sets_more : (l s : List ℕ) (n i : ℕ) → i < length s → sets l (n + i) (drop i s) ≡ sets (set l (n + i) (get_or s i 0)) (n + (i + 1)) (drop (i + 1) s)
-sets_more l s n i h =
-    let e : n + (i + 1) ≡ suc (n + i) = omega arith in
-    rw (drop-cons s i 0, e, add-one i)
-
--- no store is left: the text has ended or the room
-pub sets_none : (l s : List ℕ) (n i : ℕ) → length s - (n + length s - length l) ≤ i → sets l (n + i) (drop i s) ≡ l
-sets_none l s n i h =
-    by_test (ltb i (length s))
-    (λ e. let k = ltb-true i (length s) e in let g : length l ≤ n + i = omega arith in sets_out (drop i s) l (n + i) g)
-    (λ e. rw (drop_of_length-le s (ltb-false i (length s) e)))
-
 -- one store more of a text, at its end
 pub sets_snoc : (l : List ℕ) (n a : ℕ) (t : List ℕ) {m o : List ℕ} → m ≡ sets l n t → o ≡ set m (n + length t) a → o ≡ sets l n (t ++ (a ∷ []))
 sets_snoc l n a t e f = f ∙ rw e (sets_join t (a ∷ []) l n)

@@ -6,7 +6,7 @@ ghost use Rattle.std.proofs.lemmas.List.Edits.{sets};
 ghost use Rattle.yaml_text.specs.Utf8.{char_bytes};
 ghost use Rattle.rooms.specs.Room.{filled};
 
-// A count as a word of a record.
+// A count as a word of a record. By hand: no conversion of the library's wraps, and a count may be any.
 pub fn as_word(n: usize) -> u32
     ensures { result ≡ n % 2 ^ 32 }
 {
@@ -40,7 +40,7 @@ fn put_tail(out: &mut [u8], n: usize, v: u32)
     put(out, n, (128 + v % 64) as u8);
 }
 
-// Stores the bytes of a character from n on; where the next one goes.
+// Stores the bytes of a character from n on; where the next one goes. By hand: the library's encoder takes no surrogate, and here any number may come.
 #[tactic(auto, using(crate::proofs::Bytes::by_size))]
 pub fn put_char(out: &mut [u8], n: usize, c: u32) -> usize
     requires { (n < 2 ^ 62) × (c < 0x110000) }

@@ -57,6 +57,7 @@ fn char_len(s: &[u8], at: usize) -> Option<usize>
 }
 
 // Goes on by characters from `at` until `upto`, or stops before it where no character other than NUL begins.
+// By hand: a step is a character of one to four bytes.
 #[tactic(auto, using(crate::specs::Sound::past, crate::specs::Sound::stops))]
 fn go_slow(s: &[u8], at: usize, upto: usize) -> usize
     requires { (at < upto) × (upto ≤ length s.now) }
@@ -105,7 +106,7 @@ fn is_sound(s: &[u8]) -> bool
     true
 }
 
-// The first refusal of a text, by a second pass that moves the mark.
+// The first refusal of a text, by a second pass that moves the mark. By hand: a step is a break or a character.
 fn first_refusal(s: &[u8]) -> Result<(), Refusal>
     requires { length s.now ≤ 1_048_576 }
     ensures { result ≡ checked (decode 0 origin s.now) }
