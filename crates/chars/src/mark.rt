@@ -10,7 +10,8 @@ use crate::class::is_blank_or_breakz;
 use utf8::{byte, look};
 use yaml_text::Mark;
 
-// A byte offset into a text, with the mark of the character there.
+// A byte offset into a text, with the mark of the character there. That it stands in a text (`Stands`) is a fact of both, and a state keeps places without
+// their text: with both in one struct each promise would have to say that the text is the same still.
 #[derive(Clone, Copy)]
 pub struct Place {
     pub at: usize,

@@ -63,6 +63,7 @@ pub fn skip_blanks(text: &[u8], start: Place) -> Place
 }
 
 // To the line's end: over the characters of one byte in a row, and over one of several bytes. The bytes passed over are the line's text.
+// By hand: a turn takes as many bytes as stand in a row, and a mark goes along.
 pub fn run_to_break(text: &[u8], start: Place) -> Place
     requires { Stands text.now start }
     ensures { Spans text.now start result (line start.mark (chars (drop start.at text.now))) }

@@ -151,7 +151,7 @@ fn is_inner(text: &[u8], at: usize, b: u8, spaces: bool) -> bool
     false
 }
 
-// The place behind the run of text here, with the single spaces in it if they count.
+// The place behind the run of text here, with the single spaces in it if they count. By hand: a step is a character of one to four bytes.
 fn text_end(text: &[u8], start: Place, single: bool, spaces: bool) -> Place
     requires { Stands text.now start }
     ensures { Spans text.now start result (words spaces single start.mark (chars (drop start.at text.now))) }
