@@ -43,7 +43,7 @@ struct Replied {
     reader: Reader,
 }
 
-// What one token more comes to.
+// What one token more comes to. (No Result: neither is a failure.)
 #[derive(Clone, Copy)]
 enum Asked {
     Goes { place: ShapePlace, met: Met },

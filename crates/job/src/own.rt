@@ -26,10 +26,12 @@ const NUMBER: usize = HELD_WORDS + 7;
 
 const MARK: usize = HELD_WORDS + 8;
 
+// In place of a place's number, since what is held between calls is words.
 const DONE: u32 = 11;
 
 const NOT_DONE: u32 = 12;
 
+// No From: neither the trait nor the types are this crate's. So it is with fields and places.
 fn form_of(n: u32) -> Form
     ensures { result ≡ form_of n }
 {

@@ -163,7 +163,8 @@ fn of_kind(p: ShapePlace, m: Met, kind: ShapeKind, style: u32, text: &[u8]) -> E
     }
 }
 
-// What a token does, by words 1 and 12 of its record and the text that it has.
+// What a token does, by words 1 and 12 of its record and the text that it has. They stay numbers: the promise is of every number, and to have the kind of a token
+// its record would be read back, written again and compared, twelve words for each token.
 pub fn effect(p: ShapePlace, m: Met, kind: u32, style: u32, text: &[u8]) -> Effect
     ensures { result ≡ effect p m (record { kind = kind; style = style; text = text.now }) }
 {

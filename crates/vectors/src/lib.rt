@@ -23,12 +23,13 @@ fn line_len(s: &[u8]) -> usize
 
 // Where the line that begins at `at` ends.
 pub fn line_end(s: &[u8], at: usize) -> usize
-    ensures { result ≡ at + line_length (drop at s.now) }
+    ensures end { result ≡ at + line_length (drop at s.now) }
+    ensures within { at ≤ length s.now → result ≤ length s.now }
 {
     at + line_len(&s[at.min(s.len())..])
 }
 
-// Reads standard input into a room, until it is full or the input ends; how many bytes were read.
+// Reads standard input into a room, until it is full or the input ends; how many bytes were read. (No `for`: how much a read gives is not known before.)
 pub fn read_input(rt: &HostRuntime, room: &mut [u8]) -> io::Result<usize>
     ensures { IfOk result (λ n. n ≤ length room.new) }
 {

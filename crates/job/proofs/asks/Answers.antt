@@ -17,10 +17,10 @@ returns-in-Replies c =
     let o = c.ask in
     record {
       promise =
-        turn_replies standard s.text.now s.held.now s.words.now s.bytes.now s.place s.met s.count most_asked
-        l.held l.words l.bytes l.p l.m (most_asked - l.counter) l.invariant
-        o.new.held o.new.words o.new.bytes o.result (omega arith) o.ensures
-        c.in-Replies.r c.in-Replies.is;
+          turn_replies standard s.text.now s.held.now s.words.now s.bytes.now s.place s.met s.count most_asked
+          l.held l.words l.bytes l.p l.m (most_asked - l.counter) l.invariant
+          o.new.held o.new.words o.new.bytes o.result (omega arith) o.ensures
+          c.in-Replies.r c.in-Replies.is;
       same_length = o.array_long;
     }
 
@@ -43,8 +43,8 @@ returns c =
     let l = c.loop in
     record {
       promise =
-        turn_none standard s.text.now s.held.now s.words.now s.bytes.now s.place s.met s.count most_asked
-        l.held l.words l.bytes l.p l.m (most_asked - l.counter) l.invariant
-        c.lost.result (omega (arith, c.loop-test.false)) c.lost.ensures;
+          turn_none standard s.text.now s.held.now s.words.now s.bytes.now s.place s.met s.count most_asked
+          l.held l.words l.bytes l.p l.m (most_asked - l.counter) l.invariant
+          c.lost.result (omega (arith, c.loop-test.false)) c.lost.ensures;
       same_length = l.invariant.held;
     }

@@ -2,18 +2,15 @@
 use native.Mathlib.Omega.{arith}
 use Rattle.printing.specs.Listing.{sheet}
 use Rattle.printing.specs.Rooms.{in_rooms}
-use Rattle.stacks.specs.Most.{at_most}
 use Rattle.listing.proofs.Answered.{answered_lines}
 use Rattle.listing.proofs.list.Goals as goal
 
 pub put_answer-requires : goal.put_answer-requires
-unfolding at_most
 put_answer-requires c =
     let h = (in_rooms sheet c.args.text.now _ _ c.scan_with-a.ensures).words in
     omega (arith, c.scan_with-a.auto.words)
 
 pub returns : goal.returns
-unfolding at_most
 returns c =
     let r = c.scan_with-a in
     let p = c.put_answer.ensures in

@@ -5,27 +5,27 @@ use Rattle.replay.proofs.put_vector.Goals as goal
 
 pub put_accepted-requires : goal.put_accepted-requires
 put_accepted-requires c =
-    let r = c.scan-a in
-    let h = accepted_fits _ c.args.text.now _ _ _ _ _ _ r.ensures c.in-Accepted.is in
+    let r = c.scan in
+    let h = accepted_fits _ c.args.text.now _ _ _ _ _ r.ensures c.in-Ok.is in
     omega (arith, h, r.auto.words, r.auto.bytes, c.put_head-n.ensures.value, c.requires)
 
-pub returns-in-Accepted : goal.returns-in-Accepted
-returns-in-Accepted c =
+pub returns-in-Ok : goal.returns-in-Ok
+returns-in-Ok c =
     let a = c.args in
-    let s = c.scan-a in
-    let e = c.in-Accepted.is in
+    let s = c.scan in
+    let e = c.in-Ok.is in
     let h = c.put_head-n.ensures in
     let p = c.put_accepted.ensures in
     record {
       written = accepted_line _ a.text.now _ _ _ _ s.ensures e h.written p.written;
-      upper_bound = omega (arith, accepted_fits _ a.text.now _ _ _ _ _ _ s.ensures e, h.value, p.upper_bound);
+      upper_bound = omega (arith, accepted_fits _ a.text.now _ _ _ _ _ s.ensures e, h.value, p.upper_bound);
     }
 
-pub returns-in-Refused : goal.returns-in-Refused
-returns-in-Refused c =
+pub returns-in-Err : goal.returns-in-Err
+returns-in-Err c =
     let a = c.args in
-    let s = c.scan-a in
-    let e = c.in-Refused.is in
+    let s = c.scan in
+    let e = c.in-Err.is in
     let h = c.put_head-n.ensures in
     let p = c.put_refused.ensures in
     record { written = refused_line _ a.text.now _ _ _ _ s.ensures e h.written p.written; upper_bound = omega (arith, h.value, p.upper_bound) }

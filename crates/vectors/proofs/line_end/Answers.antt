@@ -24,4 +24,8 @@ overflow_add-result c =
     omega (arith, length_is c, line_fits (drop c.args.at s), length-drop c.args.at s)
 
 pub returns : goal.returns
-returns c = ap (λ n. c.args.at + n) (length_is c)
+returns c =
+    record {
+      end = ap (λ n. c.args.at + n) (length_is c);
+      within = λ h. omega (arith, length_is c, line_fits (drop c.args.at c.args.s.now), length-drop c.args.at c.args.s.now);
+    }
