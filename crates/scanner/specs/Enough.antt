@@ -34,7 +34,7 @@ module _ (limits : Limits) (text words₀ bytes₀ words bytes : List ℕ) where
         accepted_as r (ap (λ (x : definition.Answer). x.verdict) p ∙ room.enough limits text ts (length words₀) (length bytes₀) a records decoded)
       where
         accepted_as : (r : Result Sizes Refused) {t d : ℕ} → verdict_of r ≡ accepted t d → r ≡ Ok (record { tokens = t; bytes = d })
-        accepted_as (Ok n) e = cc
+        accepted_as (Ok n) {t} {d} e = let p : n.tokens ≡ t = cc in let q : n.bytes ≡ d = cc in rw (← p, ← q)
         accepted_as (Err f) e = let z : ◌≡◌ {A = ℕ} 0 1 = cc in absurd (omega arith)
 
     -- so a refusal is neither 4 nor 5, and T and D, which these tell, are 0
