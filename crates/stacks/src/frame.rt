@@ -1,8 +1,8 @@
 // Frames: the candidate and the flow level's data of each flow level, six words each.
 // C holds them as words, so both are read out of words here and stored as words. Their types are those of `yaml_scan`, which
 // has no code: an impl of `From` would have to stand there.
-// Each function asks for a level of at most 255. What a step keeps is that its level is within its caller's limit, which no
-// type can name, so a type for the 255 alone would stand beside that clause and not in its place.
+// Each function asks for a level of at most 255, the highest limit that there is. A level is counted and compared as its limit
+// is, a usize.
 ghost use Rattle.std.specs.Prelude.{◌≡◌, ◌≤◌};
 ghost use Rattle.yaml_scan.specs.declared.Candidate.TheVariants as candidate;
 ghost use Rattle.yaml_scan.specs.Keys.{is_required};
