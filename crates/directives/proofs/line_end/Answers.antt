@@ -1,7 +1,6 @@
 -- The blanks and comment are read, or refused, as the definition does; then only a break or the end may stand there.
-use Rattle.std.proofs.Common.{refl, sym}
+use Rattle.std.proofs.Common.{sym}
 use Rattle.std.proofs.lemmas.Result.{err_from_is_err_and}
-use Rattle.gaps.specs.Answers.{reached_to}
 use Rattle.directives.proofs.Lines.{ends_open, ends_past, ends_refused}
 use Rattle.directives.proofs.line_end.Goals as goal
 
@@ -12,9 +11,6 @@ returns-in_err-e c =
 
 pub returns-then-not-is_breakz : goal.returns-then-not-is_breakz
 returns-then-not-is_breakz c = rw c.refuse.ensures (ends_open _ c.in_ok-e.ensures c.look.ensures (sym c.if-not-is_breakz.ensures))
-
-pub skip_break-next-requires : goal.skip_break-next-requires
-skip_break-next-requires c = (reached_to c.in_ok-e.ensures refl).1
 
 pub returns : goal.returns
 returns c = ends_past _ c.in_ok-e.ensures c.look.ensures c.requires (sym c.if-not-is_breakz.ensures) c.skip_break-next.ensures

@@ -2,7 +2,7 @@
 use Rattle.std.proofs.Common.{sym}
 use Rattle.std.proofs.lemmas.Result.{err_from_is_err_and}
 use Rattle.chars.specs.Parts.{Spans}
-use Rattle.reading.specs.Answers.{behind_first, stands_behind}
+use Rattle.reading.specs.Answers.{behind_first}
 use Rattle.directives.specs.Name.{name_in}
 use Rattle.directives.proofs.Lines.{directive_got, directive_none, directive_refused, directive_stopped}
 use Rattle.directives.proofs.read_directive.Goals as goal
@@ -10,9 +10,6 @@ use Rattle.directives.proofs.read_directive.Goals.{After-run_of-p}
 
 name_read : (c : After-run_of-p) → Spans c.args.text.now (behind_first c.args.start) c.run_of-p.result (name_in c.args.text.now c.args.start)
 name_read c = rw (c.skip_blank-name.ensures, c.first_at.ensures) at c.run_of-p.ensures
-
-pub run_of-p-requires : goal.run_of-p-requires
-run_of-p-requires c = rw (c.skip_blank-name.ensures, c.first_at.ensures) (stands_behind c.requires)
 
 pub returns-then-p-eq1 : goal.returns-then-p-eq1
 returns-then-p-eq1 c =
@@ -25,18 +22,12 @@ returns-then-not-is_blank_or_breakz c =
     (directive_stopped c.requires (name_read (goal.at.returns-then-not-is_blank_or_breakz c).After-run_of-p) c.if-p-eq1.false c.look.ensures
     (sym c.if-not-is_blank_or_breakz.ensures))
 
-pub directive_of-requires : goal.directive_of-requires
-directive_of-requires c = record { indicated = c.requires; name = name_read (goal.at.directive_of-requires c).After-run_of-p }
-
 pub returns-in_err-l : goal.returns-in_err-l
 returns-in_err-l c =
     let p = err_from_is_err_and c.from_residual.result c.from_residual.ensures.1 in
     rw (p.1, p.2)
     (directive_refused c.requires (name_read (goal.at.returns-in_err-l c).After-run_of-p) c.if-p-eq1.false c.look.ensures
     (sym c.if-not-is_blank_or_breakz.ensures) c.in_err-l.ensures)
-
-pub line_end-requires : goal.line_end-requires
-line_end-requires c = c.in_ok-l.ensures.answers.ahead
 
 pub returns : goal.returns
 returns c =

@@ -1,6 +1,6 @@
 -- What is left to read and write from a word on gives all parameters.
-use Rattle.std.proofs.Common.{refl, rules, sym}
-use Rattle.directives.proofs.Joining.{joining_done, joining_from, joining_more, joining_small, joining_start, word_none, word_some}
+use Rattle.std.proofs.Common.{refl, sym}
+use Rattle.directives.proofs.Joining.{joining_done, joining_from, joining_more, joining_start, word_none, word_some}
 use Rattle.directives.proofs.Spans.{span_long}
 use Rattle.directives.proofs.reserved.read_parameters.Goals as goal
 
@@ -11,12 +11,6 @@ pub returns-then-is_empty : goal.returns-then-is_empty
 returns-then-is_empty c =
     joining_from c.skip_blanks-place.ensures
     (joining_done c.loop-word.invariant c.run_of-e.ensures (word_none c.loop-word.invariant c.run_of-e.ensures (sym c.if-is_empty.ensures)))
-
-pub overflow_add-count : goal.overflow_add-count
-overflow_add-count c =
-    let h = joining_small c.loop-word.invariant c.run_of-e.ensures c.put_space-count.ensures.1 in
-    let m = c.requires.1 in
-    rw (span_long c.run_of-e.ensures) (search rules)
 
 pub loop-word-preserved : goal.loop-word-preserved
 loop-word-preserved c =

@@ -18,9 +18,6 @@ returns-then-not-is_blank_or_breakz c =
     let w = prefix_some _ c.byte.ensures (sym c.if-not-begins_prefix.ensures) c.in_ok-w.ensures.writes in
     rw c.refuse-then-not-is_blank_or_breakz.ensures (prefix_followed _ c.skip_blanks-q.ensures w c.look.ensures (sym c.if-not-is_blank_or_breakz.ensures))
 
-pub overflow_add-used : goal.overflow_add-used
-overflow_add-used c = let h = c.requires in omega (arith, c.as_word.ensures, h.0, h.1, h.2)
-
 pub overflow_sub-w : goal.overflow_sub-w
 overflow_sub-w c = let t = (ran c.in_ok-w.ensures.writes refl).next in omega arith
 

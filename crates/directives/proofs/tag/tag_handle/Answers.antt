@@ -1,12 +1,11 @@
 -- One law of handles for each return, by the bytes at its two ends.
-use Rattle.std.proofs.Common.{◌+◌, arith, drop, rules}
+use Rattle.std.proofs.Common.{◌+◌, drop}
 use Rattle.yaml_text.specs.Char.{'!'}
 use Rattle.yaml_text.specs.Class.{is_alpha}
 use Rattle.yaml_text.specs.Mark.{along, run_of}
 use Rattle.yaml_text.specs.Utf8.{chars}
 use Rattle.chars.specs.Bytes.{CharAt, eq_char}
 use Rattle.chars.specs.Parts.{Spans}
-use Rattle.chars.specs.Places.{small, stands_along}
 use Rattle.chars.specs.View.{past}
 use Rattle.directives.proofs.Handle.{handle_closed, handle_lone, handle_none, handle_open}
 use Rattle.directives.proofs.tag.tag_handle.Goals as goal
@@ -22,14 +21,6 @@ name_read c = rw c.skip_blank.ensures at c.run_of-h.ensures
 
 pub returns-then-byte-ne33 : goal.returns-then-byte-ne33
 returns-then-byte-ne33 c = rw c.refuse.ensures (handle_none _ _ c.byte.ensures c.if-byte-ne33.true)
-
-pub run_of-h-requires : goal.run_of-h-requires
-run_of-h-requires c =
-    let m = marked (goal.at.run_of-h-requires c).Else-byte-ne33 in
-    rw c.skip_blank.ensures (stands_along c.requires 1 1 (omega arith) m.within)
-
-pub skip_blank-requires-then-byte-eq33 : goal.skip_blank-requires-then-byte-eq33
-skip_blank-requires-then-byte-eq33 c = small (name_read (goal.at.skip_blank-requires-then-byte-eq33 c).After-run_of-h).moves.stands (search rules)
 
 pub returns-then-byte-eq33 : goal.returns-then-byte-eq33
 returns-then-byte-eq33 c =

@@ -1,11 +1,7 @@
 -- The value of what is left, behind the digits so far, is the whole value; nine digits do not wrap.
-use Rattle.std.proofs.Common.{◌*◌, ◌+◌, ◌<◌, ◌^◌, arith, rules, sym}
-use Rattle.chars.specs.Places.{small}
-use Rattle.directives.proofs.Versions.{counting_long, counting_more, counting_room, counting_start, counting_stop, digit_value}
+use Rattle.std.proofs.Common.{◌*◌, ◌+◌, ◌<◌, ◌^◌, arith, sym}
+use Rattle.directives.proofs.Versions.{counting_long, counting_more, counting_room, counting_stop, digit_value}
 use Rattle.directives.proofs.version.version_digits.Goals as goal
-
-pub loop-digits-init : goal.loop-digits-init
-loop-digits-init c = counting_start c.requires
 
 pub returns-then-not-is_digit : goal.returns-then-not-is_digit
 returns-then-not-is_digit c = counting_stop c.loop-digits.invariant c.byte-c.ensures (sym c.if-not-is_digit.ensures)
@@ -25,9 +21,6 @@ overflow_add-value c =
     = counting_room c.loop-digits.invariant c.byte-c.ensures (sym c.if-not-is_digit.ensures) c.loop-digits-test.true in
     let d = digit_value _ (sym c.if-not-is_digit.ensures) in
     omega arith
-
-pub skip_blank-place-requires : goal.skip_blank-place-requires
-skip_blank-place-requires c = small c.loop-digits.invariant.stands (search rules)
 
 pub loop-digits-preserved : goal.loop-digits-preserved
 loop-digits-preserved c =

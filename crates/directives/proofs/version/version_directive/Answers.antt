@@ -1,9 +1,7 @@
 -- The first number is read behind the blanks, and the second behind a dot.
-use Rattle.std.proofs.Common.{arith, rules}
 use Rattle.std.proofs.lemmas.Result.{err_from_is_err_and}
 use Rattle.yaml_text.specs.Char.{dot}
 use Rattle.chars.specs.Bytes.{CharAt, eq_char}
-use Rattle.chars.specs.Places.{small, stands_along}
 use Rattle.directives.proofs.Versions.{major_refused, minor_refused, version_got, version_open}
 use Rattle.directives.proofs.version.version_directive.Goals as goal
 use Rattle.directives.proofs.version.version_directive.Goals.{Else-byte-ne46}
@@ -19,14 +17,6 @@ returns-in_err-major c =
 
 pub returns-then-byte-ne46 : goal.returns-then-byte-ne46
 returns-then-byte-ne46 c = λ used. rw c.refuse.ensures (version_open _ c.skip_blanks.ensures used c.in_ok-major.ensures c.byte.ensures c.if-byte-ne46.true)
-
-pub skip_blank-requires : goal.skip_blank-requires
-skip_blank-requires c = small c.in_ok-major.ensures.ahead.0 (search rules)
-
-pub version_number-requires-2 : goal.version_number-requires-2
-version_number-requires-2 c =
-    let d = dotted (goal.at.version_number-requires-2 c).Else-byte-ne46 in
-    rw c.skip_blank.ensures (stands_along c.in_ok-major.ensures.ahead.0 1 1 (omega arith) d.within)
 
 pub returns-in_err-minor : goal.returns-in_err-minor
 returns-in_err-minor c =

@@ -36,16 +36,6 @@ returns-then-not-is_scalar c =
     refuses (escape_no_scalar _ d.0 _ (named_as l c.in-Digits.is) _ c.in-Some.ensures (sym c.if-not-is_scalar.ensures))
     c.refuse-then-not-is_scalar.ensures
 
-pub overflow_add-n : goal.overflow_add-n
-overflow_add-n c =
-    let d = counting (lettered (goal.at.overflow_add-n c).After-letter-l) c.in-Digits.is in
-    omega (arith, d.1)
-
-pub skip_n_non_blank-next-requires-in-Digits : goal.skip_n_non_blank-next-requires-in-Digits
-skip_n_non_blank-next-requires-in-Digits c =
-    let d = counting (lettered (goal.at.skip_n_non_blank-next-requires-in-Digits c).After-letter-l) c.in-Digits.is in
-    (search rules, omega (arith, d.1))
-
 pub returns-else-not-is_scalar : goal.returns-else-not-is_scalar
 returns-else-not-is_scalar c =
     let l = lettered (goal.at.returns-else-not-is_scalar c).After-letter-l in
