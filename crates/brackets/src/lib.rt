@@ -72,6 +72,7 @@ fn past(s: State, pair: bool, kind: Kind, next: Place, closes: bool) -> Brief
 {
     let start = s.place.mark;
     let m = next.mark;
+    // Not copied: a copy loads at once what was stored in parts, and waits for them.
     let end = Mark {
         index: m.index,
         line: m.line,

@@ -1,4 +1,5 @@
-// K3: one token, by which lexeme stands here.
+// K3: one token, by which lexeme stands here. Each way is an arm of a match: the choice is the definition's, and a function that
+// the choice would hand out in its place could not be handed out.
 #![tactic(auto)]
 
 ghost use Rattle.std.specs.Prelude.{◌≡◌, false, true};
