@@ -33,6 +33,7 @@ fn largest_column(text: &[u8], from: Place) -> u32
 }
 
 // The content's column. parent: the block's own indent + 1.
+#[tactic(auto, using(crate::proofs::Margins::column_none, crate::proofs::Margins::column_top, crate::proofs::Margins::column_some))]
 pub fn content_column(text: &[u8], parent: u32, increment: u32, p: Place) -> u32
     requires { Stands text.now p × (parent < 2 ^ 21) × (increment ≤ 9) }
     ensures { result ≡ content_column parent increment (view text.now p) }

@@ -224,9 +224,6 @@ kinds_noted (suc zero) e = rw e
 kinds_noted (suc (suc zero)) e = rw e
 kinds_noted (suc (suc (suc k))) e = rw (e, ne_eqb (suc (suc (suc k))) 2 (λ h. absurd (omega (arith, h))))
 
-pub stored_as : (l : List ℕ) (p : ℕ) {out e e' : List ℕ} → out ≡ sets l p e → e ≡ e' → out ≡ sets l p e'
-stored_as l p o f = o ∙ ap (λ (x : List ℕ). sets l p x) f
-
 pub before_fits : (j i : ℕ) (x l : List ℕ) → (length x ≡ record_words) × (count x ≤ j) × (j * record_words ≤ length l) × (j < 2 ^ 32) → note_kinds i ≡ note_kinds (note_in x)
     → (extra i ≤ j - 1) × ((j - 1) * record_words ≤ length l) × (j - 1 < 2 ^ 32)
 before_fits j i x l h e = rw e (omega (arith, h), omega (arith, h), omega (arith, h))

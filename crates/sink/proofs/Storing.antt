@@ -2,27 +2,22 @@
 use Prim.Native.Nat.{◌+◌, ◌-◌, ◌<◌, ◌≤◌, suc, ℕ}
 use mathlib.Core.Bool.{Bool}
 use mathlib.Core.List.{List, [], ◌++◌, ◌∷◌}
-use mathlib.Core.Path.{◌∙◌, ◌≡◌, ap, refl, sym}
+use mathlib.Core.Path.{◌∙◌, ◌≡◌, refl, sym}
 use native.Mathlib.Numerals.{add-one}
 use native.Mathlib.Omega.{arith}
 use lib.ListN.{length, length-replicate}
 use Rattle.yaml_text.specs.declared.Mark.{Mark}
-use Rattle.yaml_lexeme.specs.declared.Kind.{Kind}
 use Rattle.yaml_lexeme.specs.declared.Kind.TheVariants.{BlockEnd}
 use Rattle.yaml_lexeme.specs.declared.Token.{Token}
 use Rattle.yaml_lexeme.specs.Record.{record_of}
 use Rattle.events.specs.declared.Event.{Event}
-use Rattle.events.specs.declared.Note.{Note}
 use Rattle.events.specs.declared.Opening.{Opening}
 use Rattle.events.specs.declared.Opening.TheVariants as opening
 use Rattle.events.specs.Event.{brief_event}
 use Rattle.events.specs.Event.{opening_if}
 use Rattle.events.specs.Event.{empty_of}
-use Rattle.sink.specs.StepTokens.{end_tokens, event_tokens, note_from, noted_words, opening_tokens, put_news}
+use Rattle.sink.specs.StepTokens.{end_tokens, event_tokens, noted_words, opening_tokens, put_news}
 use Rattle.sink.specs.Store.{put_list, put_list_append, put_record}
-
-pub noted : (base : ℕ) (l : List ℕ) {o : List ℕ} {n k : Note} → o ≡ noted_words l (note_from base k) → n ≡ k → o ≡ noted_words l (note_from base n)
-noted base l e f = e ∙ ap (λ (x : Note). noted_words l (note_from base x)) (sym f)
 
 -- BlockEnds one by one: what is left gives the whole
 pub ends_start : (l : List ℕ) (m : Mark) (n k : ℕ) → put_list l n (end_tokens k m) ≡ put_list l n (end_tokens (n + k - n) m)
@@ -43,11 +38,6 @@ ends_none l m i e h = rw h
 pub opening_none : (o : Opening) (m : Mark) (l : List ℕ) (n : ℕ) → opening_tokens o m ≡ [] → (n ≡ n + length (opening_tokens o m)) × (l ≡ put_list l n (opening_tokens o m))
 unfolding put_list
 opening_none o m l n e = rw e (omega arith, refl)
-
-pub opening_one : (o : Opening) (k : Kind) (m : Mark) (l a : List ℕ) (n r : ℕ) → opening_tokens o m ≡ empty_of k m ∷ []
-    → (r ≡ n + 1) × (a ≡ put_record l n (record_of (empty_of k m))) → (r ≡ n + length (opening_tokens o m)) × (a ≡ put_list l n (opening_tokens o m))
-unfolding put_list
-opening_one o k m l a n r e h = rw e h
 
 pub opens_few : (o : Opening) (m : Mark) → length (opening_tokens o m) ≤ 1
 unfolding opening_tokens
@@ -74,7 +64,7 @@ event_put e l a b o n k j p q r s t =
     let us = opening_tokens e.opening m in
     behind_ends e.closed m (us ++ (e.token ∷ [])) l a o n k p q (behind us (e.token ∷ []) a b o k j r s t)
 
-pub news_put : (e : Event) (here : Mark) (ended : ℕ) (l a b o : List ℕ) (n k : ℕ) → k ≡ n + ended → a ≡ put_list l n (end_tokens ended here)
+news_put : (e : Event) (here : Mark) (ended : ℕ) (l a b o : List ℕ) (n k : ℕ) → k ≡ n + ended → a ≡ put_list l n (end_tokens ended here)
     → b ≡ noted_words a e.note → o ≡ put_list b k (event_tokens e) → o ≡ put_news l n here ended e
 news_put e here ended l a b o n k p q i r = r ∙ rw (i, q, p)
 

@@ -21,6 +21,7 @@ use yaml_text::Mark;
 
 // Stores the record of a token in slot n, if there is room for it. Words and slot are no struct, here and below: each function may be given a
 // slot below another bound, and callers count slots in other types and store at several.
+#[tactic(auto, using(crate::specs::Store::put_record_in, crate::specs::Store::put_record_out))]
 pub fn put_record(words: &mut [u32], n: usize, t: Token)
     requires { n < 2 ^ 60 }
     ensures { words.new ≡ put_record words.old n (record_of t) }
@@ -59,6 +60,7 @@ fn put_ends(words: &mut [u32], n: usize, k: u32, m: Mark) -> usize
 
 // Notes on the record of token n, if its slot is there, what goes in before it.
 // Slot 0 is that of token base.
+#[tactic(auto, using(crate::specs::Store::put_note_in, crate::specs::Store::put_note_out))]
 fn put_note(words: &mut [u32], base: u32, n: u32, note: Noted)
     ensures { words.new ≡ put_note words.old (n - base) (noted_number note) }
 {
@@ -68,6 +70,7 @@ fn put_note(words: &mut [u32], base: u32, n: u32, note: Noted)
     }
 }
 
+#[tactic(auto, unfolding(crate::specs::StepTokens::noted_words))]
 fn note(words: &mut [u32], base: u32, n: Note)
     ensures { words.new ≡ noted_words words.old (note_from base n) }
 {
@@ -80,6 +83,7 @@ fn note(words: &mut [u32], base: u32, n: Note)
 }
 
 // Stores the empty token that comes first, if there is one, in slot n; the slot behind it.
+#[tactic(auto, unfolding(crate::specs::StepTokens::opening_tokens, crate::specs::Store::put_list))]
 fn put_opening(words: &mut [u32], n: usize, o: Opening, m: Mark) -> usize
     requires { n < 2 ^ 41 }
     ensures { (result ≡ n + length (opening_tokens o m)) × (words.new ≡ put_list words.old n (opening_tokens o m)) }

@@ -5,9 +5,6 @@ use Rattle.yaml_text.specs.Class.{is_blank}
 use Rattle.block_content.proofs.Contents.{line_end, turns_line}
 use Rattle.block_content.proofs.content_line.Goals as goal
 
-pub put_separator-n-requires : goal.put_separator-n-requires
-put_separator-n-requires c = let s = c.requires.settles in omega (arith, s.few, s.short, s.stands.within)
-
 pub overflow_add-n : goal.overflow_add-n
 overflow_add-n c =
     let l = line_end c.requires

@@ -6,11 +6,6 @@ use Rattle.gaps.specs.Answers.{reached_refused, reached_to}
 use Rattle.block_scalars.proofs.Scans.{after_right, after_wrong, reads_as, reads_refused, ready_on}
 use Rattle.block_scalars.proofs.after_header.Goals as goal
 
-pub header_end-requires : goal.header_end-requires
-header_end-requires c =
-    let w = reached_to c.in_ok-e.ensures refl in
-    ready_on c.requires (record { same = refl; stands = w.1; onward = w.2 })
-
 pub returns-in_err-e : goal.returns-in_err-e
 returns-in_err-e c =
     let a = c.args in

@@ -2,12 +2,6 @@
 use Rattle.block_scalars.proofs.Scans.{first_moves, ready_first, reads_as, reads_refused, scan_header, scan_zero}
 use Rattle.block_scalars.proofs.read_scalar.Goals as goal
 
-pub indicators-requires : goal.indicators-requires
-indicators-requires c = (first_moves c.requires.0 c.skip_blank.ensures).stands
-
-pub after_header-requires : goal.after_header-requires
-after_header-requires c = ready_first c.args.k c.requires.0 c.requires.1 c.skip_blank.ensures c.indicators.ensures c.in-Some.is
-
 pub returns-in_default : goal.returns-in_default
 returns-in_default c =
     reads_refused c.refuse.ensures

@@ -1,11 +1,8 @@
 -- BlockEnds are stored one by one: those that are left give the whole.
 use mathlib.Core.Path.{◌∙◌, refl, sym}
 use native.Mathlib.Omega.{arith}
-use Rattle.sink.proofs.Storing.{ends_more, ends_none, ends_start}
+use Rattle.sink.proofs.Storing.{ends_more, ends_none}
 use Rattle.sink.proofs.put_ends.Goals as goal
-
-pub loop-i-init : goal.loop-i-init
-loop-i-init c = ends_start _ _ c.args.n c.args.k
 
 pub loop-i-preserved : goal.loop-i-preserved
 loop-i-preserved c = let l = c.loop-i in l.invariant ∙ ends_more l.words _ _ l.i _ _ c.loop-i-test.true refl c.put_empty_token.ensures.1

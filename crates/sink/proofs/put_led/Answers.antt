@@ -4,9 +4,6 @@ use Rattle.sink.specs.StepTokens.{opening_tokens}
 use Rattle.sink.proofs.Storing.{opening_none}
 use Rattle.sink.proofs.put_led.Goals as goal
 
-pub returns-then-led : goal.returns-then-led
-returns-then-led c = rw c.if-led.true c.put_opening.ensures
-
 pub returns : goal.returns
 unfolding opening_tokens
 returns c =

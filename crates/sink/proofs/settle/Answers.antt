@@ -1,6 +1,6 @@
 -- From the back, each record moves to its place with what goes in before it; the records in front of it are not touched, and where no note is left all stands in place.
 use Prim.Native.Nat.{◌*◌, ◌<◌, ◌≤◌}
-use mathlib.Core.Path.{◌∙◌, ◌≡◌, refl, sym}
+use mathlib.Core.Path.{◌∙◌, ◌≡◌, sym}
 use native.Mathlib.Omega.{arith}
 use lib.ListN.{length}
 use Rattle.yaml_lexeme.specs.Record.{record_words}
@@ -15,9 +15,6 @@ last_at c =
     let l = c.loop-i in
     let more : l.i < l.j = omega (arith, l.invariant.1, total_least l.i l.words, c.loop-i-test.true, c.if-j-i.false) in
     last_of_front l.i l.j l.words more l.invariant.1 (omega (arith, l.invariant.0, l.auto.words, c.requires.1))
-
-pub loop-i-init : goal.loop-i-init
-loop-i-init c = (omega arith, c.requires.0, refl)
 
 pub load-x-requires : goal.load-x-requires
 load-x-requires c = omega (arith, (last_at c).fits)

@@ -3,18 +3,8 @@ use mathlib.Core.Bool.{false, true}
 use mathlib.Core.Path.{◌∙◌, ◌≡◌, refl, sym}
 use Rattle.yaml_text.specs.Class.{is_digit}
 use Rattle.yaml_lexeme.specs.Block.{is_chomp}
-use Rattle.chars.specs.Places.{small}
 use Rattle.block_header.proofs.Headers.{heads_chomp, heads_chomp_digit, heads_digit_chomp, heads_digit_only, heads_nothing}
-use borrow.Author.Rules.{rules}
 use Rattle.block_header.proofs.header.indicators.Goals as goal
-
-pub skip_n_non_blank-requires : goal.skip_n_non_blank-requires
-skip_n_non_blank-requires c = (small c.requires (search rules), search rules)
-
-pub by_digit-requires : goal.by_digit-requires
-by_digit-requires c =
-    let then-digit : is_digit c.byte-d.result ≡ true = sym c.is_digit.ensures ∙ c.if-is_digit.true in
-    then-digit
 
 pub returns-then-is_digit : goal.returns-then-is_digit
 returns-then-is_digit c =
@@ -26,9 +16,6 @@ returns-then-is_digit c =
     (then-digit) c.chomping_of-k.ensures
     c.skip_n_non_blank.ensures c.by_digit.ensures
 
-pub skip_blank-requires : goal.skip_blank-requires
-skip_blank-requires c = small c.requires (search rules)
-
 pub returns-then-is_chomp : goal.returns-then-is_chomp
 returns-then-is_chomp c =
     let chomp : is_chomp c.byte-c.result ≡ true = sym c.is_chomp.ensures ∙ c.if-is_chomp.true in
@@ -37,14 +24,6 @@ returns-then-is_chomp c =
     c.byte-c.ensures c.byte-d.ensures
     (chomp) (then-none) c.chomping_of-k.ensures
     c.skip_blank.ensures refl
-
-pub skip_n_non_blank-requires-then-is_chomp-2 : goal.skip_n_non_blank-requires-then-is_chomp-2
-skip_n_non_blank-requires-then-is_chomp-2 c = (small c.requires (search rules), search rules)
-
-pub by_digit-requires-then-is_chomp-2 : goal.by_digit-requires-then-is_chomp-2
-by_digit-requires-then-is_chomp-2 c =
-    let digit : is_digit c.byte-c.result ≡ true = sym c.is_digit-2.ensures ∙ c.if-is_digit-2.true in
-    digit
 
 pub returns-then-is_chomp-2 : goal.returns-then-is_chomp-2
 returns-then-is_chomp-2 c =
@@ -56,14 +35,6 @@ returns-then-is_chomp-2 c =
     (no-chomp) (digit)
     (sym c.is_chomp-then-is_digit-2.ensures ∙ c.if-is_chomp-2.true)
     c.chomping_of-k-then-is_digit-2.ensures c.skip_n_non_blank-then-is_chomp-2.ensures c.by_digit-then-is_chomp-2.ensures
-
-pub skip_blank-requires-then-is_digit-2 : goal.skip_blank-requires-then-is_digit-2
-skip_blank-requires-then-is_digit-2 c = small c.requires (search rules)
-
-pub by_digit-requires-then-is_digit-2 : goal.by_digit-requires-then-is_digit-2
-by_digit-requires-then-is_digit-2 c =
-    let digit : is_digit c.byte-c.result ≡ true = sym c.is_digit-2.ensures ∙ c.if-is_digit-2.true in
-    digit
 
 pub returns-then-is_digit-2 : goal.returns-then-is_digit-2
 returns-then-is_digit-2 c =

@@ -7,16 +7,10 @@ use Rattle.chars.specs.Bytes.{CharAt, eq_char}
 use Rattle.chars.specs.Places.{small}
 use Rattle.chars.specs.Reach.{reach_one}
 use Rattle.gaps.specs.Breaks.{BreakAt, break_at}
-use Rattle.gaps.specs.Walk.{walks_along, walks_move, walks_start}
+use Rattle.gaps.specs.Walk.{walks_along, walks_move}
 use Rattle.block_header.proofs.Margins.{largest_end, largest_line, largest_space}
 use borrow.Author.Rules.{rules}
 use Rattle.block_header.proofs.margin.largest_column.Goals as goal
-
-pub loop-p-init : goal.loop-p-init
-loop-p-init c = walks_start c.requires
-
-pub skip_blank-p-requires : goal.skip_blank-p-requires
-skip_blank-p-requires c = small c.loop-p.invariant.stands (search rules)
 
 pub loop-p-smaller-then-c-eq32 : goal.loop-p-smaller-then-c-eq32
 loop-p-smaller-then-c-eq32 c =

@@ -10,22 +10,16 @@ use Rattle.chars.specs.Bytes.{CharAt, eq_char}
 use Rattle.chars.specs.Places.{small}
 use Rattle.chars.specs.Reach.{reach_one}
 use Rattle.gaps.specs.Breaks.{BreakAt, break_at}
-use Rattle.gaps.specs.Walk.{walks_along, walks_move, walks_start}
+use Rattle.gaps.specs.Walk.{walks_along, walks_move}
 use Rattle.block_header.proofs.Margins.{margin_end, margin_line, margin_space, margins_done}
 use borrow.Author.Rules.{rules}
 use Rattle.block_header.proofs.margin.skip_margin.Goals as goal
-
-pub loop-p-init : goal.loop-p-init
-loop-p-init c = (walks_start c.requires, search rules)
 
 pub skip_linebreak-p-requires : goal.skip_linebreak-p-requires
 skip_linebreak-p-requires c =
     let break : BreakAt (c.args.text.now) (c.loop-p.p) c.break_length.result = break_at c.loop-p.invariant.0.stands c.byte-c.ensures
     (sym c.is_break.ensures ∙ c.if-is_break.true) c.break_length.ensures in
     (small c.loop-p.invariant.0.stands (search rules), (break).few)
-
-pub overflow_add-n : goal.overflow_add-n
-overflow_add-n c = omega (arith, c.loop-p.invariant.1, c.loop-p.invariant.0.stands)
 
 pub loop-p-smaller-then-is_break : goal.loop-p-smaller-then-is_break
 loop-p-smaller-then-is_break c =
@@ -40,9 +34,6 @@ loop-p-preserved-then-is_break c =
     let x = break in
     let i = c.loop-p.invariant in
     rw c.skip_linebreak-p.ensures (walks_move i.0 x.moves (margin_line _ _ x), omega (arith, i.1, x.some))
-
-pub skip_blank-p-requires : goal.skip_blank-p-requires
-skip_blank-p-requires c = small c.loop-p.invariant.0.stands (search rules)
 
 pub loop-p-smaller : goal.loop-p-smaller
 loop-p-smaller c =
