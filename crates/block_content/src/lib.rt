@@ -55,7 +55,8 @@ pub enum Between {
     Behind { blank: bool, lines: u32 },
 }
 
-// The state of the reading: where, what stands before it, how many bytes of text so far.
+// The state of the reading: where, what stands before it, how many bytes of text so far. That it `Settles` is no invariant of the struct, since it
+// is so in one text, which no copy of the state should carry along.
 #[derive(Clone, Copy)]
 pub struct Content {
     pub place: Place,

@@ -104,7 +104,7 @@ fn content_under(
     Ok(content_scalar(text, k, b, g, out))
 }
 
-// Behind the header's break. 31: a tab right there.
+// Behind the header's break. 31: a tab right there. That the header was read (`HeaderRead`) is so in one text: no invariant of `Header` could say it.
 fn under_header(
     text: &[u8],
     k: Block,

@@ -97,7 +97,7 @@ fn put_opening(words: &mut [u32], n: usize, o: Opening, m: Mark) -> usize
     }
 }
 
-// The same where a test holds.
+// The same where a test holds. Test and token are no Option: the token is a constant of `put_brief`'s L, the test its caller's.
 fn put_led(words: &mut [u32], n: usize, led: bool, o: Opening, m: Mark) -> usize
     requires { n < 2 ^ 41 }
     ensures { (result ≡ n + length (opening_tokens (opening_if led o) m)) × (words.new ≡ put_list words.old n (opening_tokens (opening_if led o) m)) }
