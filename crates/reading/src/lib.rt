@@ -8,7 +8,6 @@ ghost use Rattle.reading.specs.Puts.{Puts};
 ghost use Rattle.reading.specs.Reading.{Clears};
 
 use chars::mark::Place;
-use chars::refuse::refuse;
 use yaml_lexeme::{Kind, Text, Token};
 use yaml_text::{Mark, Refusal};
 
@@ -52,23 +51,7 @@ pub fn clear(out: &mut [u8])
     rooms::clear_from(out, 0);
 }
 
-// A refusal, which leaves the lent bytes all zero.
-pub fn pass_on<T>(f: Refusal, out: &mut [u8]) -> Result<T, Refusal>
-    ensures { (result ≡ Err f) × (out.new ≡ replicate (length out.old) 0) }
-{
-    clear(out);
-    Err(f)
-}
-
-// The same by its number.
-pub fn refuse_out<T>(number: u32, mark: Mark, out: &mut [u8]) -> Result<T, Refusal>
-    ensures { (result ≡ Err (record { number = number; mark = mark })) × (out.new ≡ replicate (length out.old) 0) }
-{
-    clear(out);
-    refuse(number, mark)
-}
-
-// What a reader answers whose own readers leave the lent bytes as they are at a refusal: it leaves them all zero.
+// A refusal leaves the lent bytes all zero: what was written before it is cleared here, once for a whole reader.
 pub fn clear_refused(r: Result<Lexeme, Refusal>, out: &mut [u8]) -> Result<Lexeme, Refusal>
     ensures { Clears out.old out.new r result }
 {

@@ -177,10 +177,6 @@ pub record Running (f : ℕ → Bool) (start : Mark) (s before : List ℕ) (p : 
   pub clears : cleared out n ≡ cleared before n
   pub whole : written before n (uri_at f start (view s p)) ≡ written out w.count (uri_at f start (view s w.place))
 
-pub running_start : {f : ℕ → Bool} {start : Mark} {s before : List ℕ} {p : Place} {n : ℕ} → Stands s p
-    → Running f start s before p n before (record { count = n; place = p })
-running_start h = record { stands = h; few = omega arith; many = omega arith; kept = refl; clears = refl; whole = refl }
-
 module _ {f : ℕ → Bool} {start : Mark} {s before out : List ℕ} {p : Place} {n : ℕ} {v : Written} (w : Running f start s before p n out v) where
   pub running_stop : {c : ℕ} → Ascii f → c ≡ get_or s v.place.at 0 → f c ≡ false
       → WritesOr s before out (cleared before n) p n (Ok v) (uri_at f start (view s p))

@@ -27,7 +27,7 @@ use Rattle.chars.specs.Bytes.{CharAt, eq_char, ne_char}
 use Rattle.chars.specs.Parts.{part_join, part_more}
 use Rattle.chars.specs.Places.{stands_along}
 use Rattle.chars.specs.Reach.{more, none, reach_one, reach_rest}
-use Rattle.chars.specs.View.{Stands, past, view}
+use Rattle.chars.specs.View.{past, view}
 use Rattle.reading.specs.Reading.{first_at}
 use Rattle.reading.specs.declared.Written.{Written}
 use Rattle.runs.specs.Encode.{none_size}

@@ -6,7 +6,8 @@ ghost use Rattle.reading.specs.Reading.{Indicated, Lexes, first_at};
 use chars::class::AnchorChar;
 use chars::mark::Place;
 use chars::pick::pick;
-use reading::{Lexeme, refuse_out, text_at};
+use chars::refuse::refuse;
+use reading::{Lexeme, clear, text_at};
 use rooms::copy;
 use runs::run_of;
 use yaml_lexeme::Kind;
@@ -27,7 +28,8 @@ pub fn scan_anchor(
     let e = run_of::<AnchorChar>(text, first.skip_blank());
     let to = e.at;
     if to == 1 {
-        return refuse_out(27, start, out);
+        clear(out);
+        return refuse(27, start);
     }
     copy(out, 0, &text[1..to]);
     let name = text_at(used, to - 1);

@@ -1,5 +1,5 @@
 -- The three answers to a character: itself, the one that its escape is, a refusal.
-use Rattle.std.proofs.Common.{refl, rules}
+use Rattle.std.proofs.Common.{refl}
 use Rattle.std.proofs.lemmas.Result.{err_from_is_err_and}
 use Rattle.yaml_text.specs.Char.{'%'}
 use Rattle.chars.specs.Bytes.{CharAt}
@@ -20,9 +20,6 @@ pub returns-in_err-e : goal.returns-in_err-e
 returns-in_err-e c =
     let p = err_from_is_err_and c.from_residual.result c.from_residual.ensures.1 in
     rw (p.1, p.2) (put_refused c.args.start c.requires.0 (sign (goal.at.returns-in_err-e c).Else-c-ne37) c.in_err-e.ensures refl refl)
-
-pub put_char-count-requires : goal.put_char-count-requires
-put_char-count-requires c = (search rules, c.in_ok-e.ensures.ahead.0)
 
 pub returns : goal.returns
 returns c =

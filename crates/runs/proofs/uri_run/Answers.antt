@@ -2,7 +2,7 @@
 use Rattle.std.proofs.Common.{◌<◌, ◌≡◌, true, arith, sym}
 use Rattle.chars.specs.Ascii.{ascii_low}
 use Rattle.chars.specs.Bytes.{CharAt, ascii_char}
-use Rattle.runs.proofs.Writing.{running_more, running_on, running_refused, running_start, running_stop}
+use Rattle.runs.proofs.Writing.{running_more, running_on, running_refused, running_stop}
 use Rattle.runs.proofs.uri_run.Given as given
 use Rattle.runs.proofs.uri_run.Goals as goal
 use Rattle.runs.proofs.uri_run.Goals.{Else-not-has}
@@ -13,9 +13,6 @@ inside g c = sym c.if-not-has.ensures
 
 here : (g : given.Over) (c : Else-not-has g) → CharAt c.args.text.now c.loop-start.w.place.at c.byte-c.result 1
 here g c = ascii_char _ _ _ c.byte-c.ensures g.met.C.AsciiClass.ascii (inside g c)
-
-pub loop-start-init : goal.loop-start-init
-loop-start-init g c = running_start c.requires.0
 
 pub returns-then-not-has : goal.returns-then-not-has
 returns-then-not-has g c = running_stop c.loop-start.invariant g.met.C.AsciiClass.ascii c.byte-c.ensures (sym c.if-not-has.ensures)

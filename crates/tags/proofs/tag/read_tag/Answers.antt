@@ -1,8 +1,7 @@
 -- Both texts are read and the tag's end is looked at.
-use Rattle.std.proofs.Common.{arith, refl, sym}
+use Rattle.std.proofs.Common.{refl, sym}
 use Rattle.std.proofs.lemmas.Result.{err_from_is_err_and}
 use Rattle.chars.specs.Bytes.{eq_char}
-use Rattle.tags.proofs.Laying.{laid_got}
 use Rattle.tags.proofs.Tags.{tag_ended, tag_open, tag_refused}
 use Rattle.tags.proofs.tag.read_tag.Goals as goal
 
@@ -16,11 +15,6 @@ returns-in_err-t c =
 
 pub returns-then-not-ends_tag : goal.returns-then-not-ends_tag
 returns-then-not-ends_tag c = rw c.refuse.ensures (tag_open _ c.requires.0 c.in_ok-t.ensures c.look.ensures (sym c.if-not-ends_tag.ensures))
-
-pub overflow_add-used : goal.overflow_add-used
-overflow_add-used c =
-    let k = (laid_got c.in_ok-t.ensures).2 in
-    omega (arith, c.as_word.ensures, k.few, k.stands, c.requires.0.given)
 
 pub returns : goal.returns
 returns c =
