@@ -3,7 +3,6 @@
 
 ghost use Rattle.std.specs.Prelude.{◌≡◌, ⊤};
 ghost use Rattle.tokens.specs.Accepted.{Accepted, Lists};
-ghost use Rattle.tokens.specs.declared.Listed as listed;
 
 use chars::mark::origin;
 use chars::refuse::refuse;
@@ -81,7 +80,7 @@ pub fn list_tokens(
     words: &mut [u32],
     bytes: &mut [u8],
 ) -> Listed
-    ensures { result ≡ listed.Accepted → Accepted text.now }
+    ensures { result ≡ Listed.Accepted → Accepted text.now }
 {
     match list_lines(&mut Outlet::Output(rt.stdout()), text, words, bytes) {
         Ok(Ok(())) => Listed::Accepted,
