@@ -1,5 +1,5 @@
 -- The token of a bracket or ',': the code reads the blanks and comment from behind its own byte, as the definition does, and goes on there.
-use Prim.Native.Nat.{◌+◌, ◌^◌, ◌<◌, ◌≤◌, ℕ}
+use Prim.Native.Nat.{◌≤◌, ℕ}
 use mathlib.Core.Bool.{Bool, false, true}
 use mathlib.Core.List.{List, [], ◌++◌, ◌∷◌}
 use mathlib.Core.Path.{◌∙◌, ◌≡◌, refl}

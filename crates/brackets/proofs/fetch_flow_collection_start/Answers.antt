@@ -3,7 +3,7 @@ use Rattle.std.proofs.Common.{◌∙◌, ap, arith, false, refl}
 use Rattle.std.proofs.lemmas.Result.{err_from_is_err_and}
 use Rattle.yaml_text.specs.Pick.{pick}
 use Rattle.yaml_lexeme.specs.Token.{FlowMappingStart, FlowSequenceStart}
-use Rattle.states.specs.Answer.{fetch_refused, lent_kept, ready_saves}
+use Rattle.states.specs.Answer.{fetch_refused, lent_kept}
 use Rattle.brackets.specs.Emit.{emit_bracket}
 use Rattle.brackets.proofs.Emitted.{emits_to, opens}
 use Rattle.brackets.proofs.Levels.{start_deep, start_emits, start_full, start_refused, start_state, start_words}
