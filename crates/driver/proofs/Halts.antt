@@ -43,38 +43,9 @@ key_closed e l (suc d) h = let o : l ≡ d → ⊥ = λ i. omega arith in rw (ke
 module _ (room base : ℕ) (w : Pending) (level : ℕ) (e : List ℕ) (d : ℕ) (p : Mark) (m : Counts) where
   abbrev says : Halt
   says = one_by_one room base w level (frame_keys e (suc d)) d p m
-
-  pub one_full : room < m.used → refuse 5 origin ≡ says
-  unfolding one_by_one
-  one_full h = rw (lt-ltb room m.used h)
-
-  pub one_named : m.used ≤ room → {b : Bool} → b ≡ names w.number (level_key w.level (frame_keys e (suc d)))
-      → pick b (crowded w m p) (if_enough base (then_pending level (frame_keys e (suc d)) d m)) ≡ says
-  unfolding one_by_one
-  one_named h q = rw (le-ltb room m.used h, ← q)
-
   -- the next that is pending
-  pub one_others : m.used ≤ room → {v : Pending} → false ≡ names w.number (level_key w.level (frame_keys e (suc d))) → v ≡ then_pending level (frame_keys e (suc d)) d m
-      → if_enough base v ≡ says
-  one_others h q f = ap (λ (v : Pending). if_enough base v) f ∙ one_named h q
 
--- 51
-
-module _ (w : Pending) (m : Counts) (p : Mark) where
-  pub crowded_full : 4_096 < m.count - w.number + (m.put_in - w.put_in) → refuse 51 p ≡ crowded w m p
-  unfolding crowded
-  crowded_full h = rw (lt-ltb 4_096 (m.count - w.number + (m.put_in - w.put_in)) h)
-
-  pub crowded_on : m.count - w.number + (m.put_in - w.put_in) ≤ 4_096 → go_on w ≡ crowded w m p
-  unfolding crowded
-  crowded_on h = rw (le-ltb 4_096 (m.count - w.number + (m.put_in - w.put_in)) h)
-
--- what is pending then, and whether enough can be given
-
-pub pending_then : (level : ℕ) (ks : List Candidate) (flow : ℕ) (m : Counts) {b : Bool} → b ≡ names (m.count - 1) (level_key level ks)
-    → pick b (record { number = m.count - 1; level = level; put_in = m.put_in }) (record { number = m.count; level = flow; put_in = m.put_in }) ≡ then_pending level ks flow m
-unfolding then_pending
-pending_then level ks flow m q = rw (← q)
+-- what is pending then
 
 pub then_least : {base : ℕ} {v : Pending} (level : ℕ) (ks : List Candidate) (flow : ℕ) (m : Counts) → base < m.count → v ≡ then_pending level ks flow m → base ≤ v.number
 unfolding then_pending
@@ -82,15 +53,6 @@ then_least {base} level ks flow m h e =
     rw e
     (by_pick (λ (v : Pending). base ≤ v.number) (names (m.count - 1) (level_key level ks)) (record { number = m.count - 1; level = level; put_in = m.put_in })
     (record { number = m.count; level = flow; put_in = m.put_in }) (omega arith) (omega arith))
-
-module _ (base : ℕ) (w : Pending) where
-  pub enough_more : w.number - base < slots_ahead → go_on w ≡ if_enough base w
-  unfolding if_enough
-  enough_more h = rw (lt-ltb (w.number - base) slots_ahead h)
-
-  pub enough_ready : slots_ahead ≤ w.number - base → pause w ≡ if_enough base w
-  unfolding if_enough
-  enough_ready h = rw (le-ltb (w.number - base) slots_ahead h)
 
 -- the candidate of a level by its number
 
@@ -102,14 +64,8 @@ pub not_named : (k : ℕ) {c : Candidate} → c ≡ Absent → false ≡ names k
 unfolding names
 not_named k e = rw e
 
--- the test is asked, or not
-
-module _ (room base : ℕ) (w : Pending) (level : ℕ) (ks : List Candidate) (flow : ℕ) (p : Mark) (m : Counts) where
-  pub test_one : {single : Bool} → single ≡ true → one_by_one room base w level ks flow p m ≡ test_of single room base w level ks flow p m
-  test_one e = rw e
-
-  pub test_none : {single : Bool} → single ≡ false → go_on w ≡ test_of single room base w level ks flow p m
-  test_none e = rw e
+-- which level has that number
+pub ruleset named_level = (key_open, key_closed, named, not_named)
 
 -- what is pending has a number from that of slot 0 up to the count, and a level that is within the limits
 
@@ -154,8 +110,3 @@ module _ (base : ℕ) (m : Counts) (more : base < m.count) where
       (enough_fits (then_pending level ks flow m) (then_fits level ks flow h k)))
 
 -- what is held then
-
-pub hold_put : (h : List ℕ) (t : State) (k : Counts) (base : ℕ) (w : Pending) {v : ℕ} {a b d : List ℕ} → a ≡ put_state h t → b ≡ put_counts a k → v ≡ w.level
-    → d ≡ put_until (set b level_at v) base w → d ≡ put_pending (put_counts (put_state h t) k) base w
-hold_put h t k base w {b = b} e f q g =
-    g ∙ ap (λ (z : ℕ). put_until (set b level_at z) base w) q ∙ ap (λ (z : List ℕ). put_pending z base w) (f ∙ ap (λ (z : List ℕ). put_counts z k) e)

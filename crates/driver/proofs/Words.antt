@@ -69,7 +69,7 @@ flag_2 a b =
 -- words that hold what a step may be given
 
 module _ {limits : Limits} {text stacks : List ℕ} {s : State} {n : Counts} (g : StepGiven limits text stacks s n) (h : List ℕ) where
-  pub state_back : ((j : ℕ) → j < 9 → word h (state_at + j) ≡ get_or (state_words s) j 0) → state_held limits text h ≡ s
+  state_back : ((j : ℕ) → j < 9 → word h (state_at + j) ≡ get_or (state_words s) j 0) → state_held limits text h ≡ s
   unfolding state_words
   state_back w =
       let r = g.ready in
@@ -86,7 +86,7 @@ module _ {limits : Limits} {text stacks : List ℕ} {s : State} {n : Counts} (g 
         flag_2 s.leading_whitespace s.simple_key_allowed,
       ))
 
-  pub counts_back : word h state_at ≡ s.place.at → word h counts_at ≡ n.count → word h (counts_at + 1) ≡ n.put_in → word h (counts_at + 2) ≡ n.used
+  counts_back : word h state_at ≡ s.place.at → word h counts_at ≡ n.count → word h (counts_at + 1) ≡ n.put_in → word h (counts_at + 2) ≡ n.used
       → counts_held text h ≡ n
   counts_back e a b c =
       rw (e, a, b, c)
@@ -132,56 +132,3 @@ module _ {limits : Limits} {text stacks : List ℕ} {s : State} {n : Counts} (g 
   stored_counts = counts_back g stored (state_word 0 (omega arith)) (count_word 0 (omega arith)) (count_word 1 (omega arith)) (count_word 2 (omega arith))
 
 -- the code's words: a length, or a count, that fits is stored as it is
-
-pub whole_word : {r n : ℕ} → r ≡ n % 2 ^ 32 → n < 2 ^ 32 → r ≡ n
-whole_word e h = omega arith
-
-pub at_short : {len at : ℕ} (text h : List ℕ) → len ≡ length text % 2 ^ 32 → length text ≤ 1_048_576 → at ≡ at_most len (word h state_at) → (len ≡ length text) × (at ≤ length text)
-at_short {len} text h e short f = let k = at_most_fits len (word h state_at) in (omega arith, omega arith)
-
-pub place_loaded : {len at index line col : ℕ} (text h : List ℕ) → len ≡ length text % 2 ^ 32 → length text ≤ 1_048_576 → at ≡ at_most len (word h state_at)
-    → index ≡ at_most (1_048_576 + at - len) (word h mark_at) → line ≡ at_most (index + 1) (word h (mark_at + 1)) → col ≡ at_most index (word h (mark_at + 2))
-    → ◌≡◌ {A = Place} (record { at = at; mark = record { index = index; line = line; col = col } }) (place_held text h)
-place_loaded text h e short a i l c = let f = (at_short text h e short a).0 in rw (l, c, i, a, f)
-
-pub index_short : {len at index : ℕ} (text h : List ℕ) → len ≡ length text % 2 ^ 32 → length text ≤ 1_048_576 → at ≡ at_most len (word h state_at)
-    → index ≡ at_most (1_048_576 + at - len) (word h mark_at) → index ≤ 1_048_576
-index_short {len} {at} text h e short a i = let k = at_short text h e short a in let j = at_most_fits (1_048_576 + at - len) (word h mark_at) in omega arith
-
-pub counts_loaded : {len at a b c : ℕ} (text h : List ℕ) → len ≡ length text % 2 ^ 32 → length text ≤ 1_048_576 → at ≡ at_most len (word h state_at)
-    → a ≡ at_most (1 + 512 * at) (word h counts_at) → b ≡ at_most (2 * at) (word h (counts_at + 1)) → c ≡ at_most (3 * at) (word h (counts_at + 2))
-    → ◌≡◌ {A = Counts} (record { count = a; put_in = b; used = c }) (counts_held text h)
-counts_loaded text h e short f a b c = let g = (at_short text h e short f).0 in rw (a, b, c, f, g)
-
-pub pending_loaded : {level : ℕ} (h : List ℕ) (base : ℕ) (n : Counts) → level ≡ at_most 255 (word h level_at)
-    → ◌≡◌ {A = Pending} (record { number = base; level = level; put_in = n.put_in }) (pending_held h base n)
-pending_loaded h base n e = rw e
-
-module _ {limits : Limits} (m : Modest limits) where
-  pub limit_words : {entries levels : ℕ} → entries ≡ limits.entries % 2 ^ 32 → levels ≡ limits.levels % 2 ^ 32 → (entries ≡ limits.entries) × (levels ≡ limits.levels)
-  limit_words e l = let k = m.entries in let j = m.levels in (omega arith, omega arith)
-
-  pub depth_short : {entries depth : ℕ} (h : List ℕ) → entries ≡ limits.entries % 2 ^ 32 → depth ≡ at_most entries (word h (state_at + 7)) → depth ≤ 255
-  depth_short {entries} h e d = let k = m.entries in let j = at_most_fits entries (word h (state_at + 7)) in omega arith
-
-  pub state_loaded : {p : Place} {flags entries depth indent levels level : ℕ} (text h : List ℕ) → p ≡ place_held text h → flags ≡ word h (state_at + 4) → entries ≡ limits.entries % 2 ^ 32
-      → depth ≡ at_most entries (word h (state_at + 7)) → indent ≡ at_most (1_048_577 + depth) (word h (state_at + 6)) → levels ≡ limits.levels % 2 ^ 32
-      → level ≡ at_most levels (word h (state_at + 8))
-      → ◌≡◌ {A = State}
-      (record {
-        leading_whitespace = eqb (flags % 2) 1;
-        simple_key_allowed = eqb (flags / 2 % 2) 1;
-        adjacent_value_allowed_at = word h (state_at + 5);
-        indents = record { indent = indent; depth = depth };
-        place = p;
-        flow_level = level;
-      })
-      (state_held limits text h)
-  state_loaded text h e f entries d i levels l = let w = limit_words entries levels in rw (e, f, i, d, l, w.0, w.1)
-
-pub state_put : (h : List ℕ) (s : State) {a d l : ℕ} → a ≡ s.place.at → d ≡ s.indents.depth → l ≡ s.flow_level
-    → set (set (set (set (set (set (set (set (set h state_at a) mark_at s.place.mark.index) (mark_at + 1) s.place.mark.line) (mark_at + 2) s.place.mark.col)
-    (state_at + 4) (bit s.leading_whitespace + 2 * bit s.simple_key_allowed)) (state_at + 5) s.adjacent_value_allowed_at)
-    (state_at + 6) s.indents.indent) (state_at + 7) d) (state_at + 8) l ≡ put_state h s
-unfolding state_words
-state_put h s e f g = rw (e, f, g)

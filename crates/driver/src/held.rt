@@ -86,6 +86,7 @@ pub fn load_counts(held: &[u32; HELD_WORDS], text: &[u8]) -> Counts
     }
 }
 
+#[tactic(auto, unfolding(crate::specs::Held::state_words), using(stacks::specs::Bit::bit_low))]
 pub fn store_state(held: &mut [u32; HELD_WORDS], s: State)
     requires { (s.place.at < 2 ^ 32) × (s.indents.depth < 2 ^ 32) × (s.flow_level < 2 ^ 32) }
     ensures { held.new ≡ put_state held.old s }

@@ -238,6 +238,7 @@ fn one_step(
 }
 
 // Whether the candidate of a level is the token of that number; a level above the flow level has none.
+#[tactic(auto, using(crate::proofs::Halts::named_level))]
 fn is_named(stacks: &[u32; STACK_WORDS], flow: usize, level: usize, number: u32) -> bool
     requires { level ≤ 255 }
     ensures { result ≡ names number (level_key level (frame_keys stacks.now (suc flow))) }
@@ -252,6 +253,7 @@ fn is_named(stacks: &[u32; STACK_WORDS], flow: usize, level: usize, number: u32)
 }
 
 // 51, where too many wait, or on.
+#[tactic(auto, unfolding(stream_laws::specs::Driven::crowded))]
 fn too_many(w: Pending, k: Counts, here: Mark) -> Result<Behind, Refusal>
     requires { (w.number ≤ k.count) × (w.put_in ≤ k.put_in) × (k.count + k.put_in < 2 ^ 32) }
     ensures { halt_of result ≡ crowded w k here }
@@ -263,6 +265,7 @@ fn too_many(w: Pending, k: Counts, here: Mark) -> Result<Behind, Refusal>
 }
 
 // What is pending where all tokens but the last can be given, behind a step from that level.
+#[tactic(auto, unfolding(stream_laws::specs::Driven::then_pending))]
 fn then_pending(stacks: &[u32; STACK_WORDS], level: usize, flow: usize, k: Counts) -> Pending
     requires { (level ≤ 255) × (0 < k.count) }
     ensures { result ≡ then_pending level (frame_keys stacks.now (suc flow)) flow k }
@@ -282,6 +285,7 @@ fn then_pending(stacks: &[u32; STACK_WORDS], level: usize, flow: usize, k: Count
 }
 
 // Enough can be given, or on.
+#[tactic(auto, unfolding(stream_laws::specs::Driven::if_enough))]
 fn if_enough(base: u32, w: Pending) -> Behind
     requires { base ≤ w.number }
     ensures { halt_of (Ok result) ≡ if_enough base w }
@@ -293,6 +297,7 @@ fn if_enough(base: u32, w: Pending) -> Behind
 }
 
 // Where tokens are given one at a time, behind a step from that level to the state t, with the counts k: 5; 51; whether enough can be given.
+#[tactic(auto, unfolding(stream_laws::specs::Driven::one_by_one))]
 fn behind_one(
     room: usize,
     base: u32,

@@ -136,3 +136,9 @@ module _ (limits : Limits) (text : List ℕ) {l b l' b' : List ℕ} {m : Counts}
   unfolding answer answer_for
   answered k j =
       lent_as m l' b' ts counted_tokens counted_bytes k j words_filled bytes_filled ∙ rw w.same
+
+pub ruleset before_run = (too_long, invalid, valid)
+
+pub ruleset by_room = (no_words, no_bytes, both_fit)
+
+pub ruleset by_outcome = (answered, settles)

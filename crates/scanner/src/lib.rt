@@ -40,6 +40,7 @@ const NONE: Sizes = Sizes {
 };
 
 // 1; then 2 or 3; then the run.
+#[tactic(auto, using(crate::proofs::Filled::before_run))]
 fn outcome(
     limits: Limits,
     text: &[u8],
@@ -66,6 +67,7 @@ fn clears(f: Refusal, sizes: Sizes, words: &mut [u32], bytes: &mut [u8]) -> Resu
 }
 
 // 4: T exceeds the whole records that fit; 5: D exceeds the bytes.
+#[tactic(auto, using(crate::proofs::Filled::by_room))]
 fn lent(n: Counts, words: &mut [u32], bytes: &mut [u8]) -> Result<Sizes, Refused>
     requires { Settles n words.old }
     ensures { answer_of result words.new bytes.new ≡ lent_of n words.old bytes.old }
@@ -89,6 +91,7 @@ fn lent(n: Counts, words: &mut [u32], bytes: &mut [u8]) -> Result<Sizes, Refused
 }
 
 // Within limits that are at most 01's.
+#[tactic(auto, using(crate::proofs::Filled::by_outcome))]
 fn scan_within(
     limits: Limits,
     text: &[u8],
@@ -117,6 +120,7 @@ fn capped(limits: Limits) -> Limits
 }
 
 // Tokens and decoded text of a text, in lent words and bytes, within these limits and 01's.
+#[tactic(auto, using(crate::specs::Promise::capped_modest))]
 pub fn scan_with(
     limits: Limits,
     text: &[u8],
@@ -129,6 +133,7 @@ pub fn scan_with(
 }
 
 // The same within 01's limits.
+#[tactic(auto, using(crate::specs::Promise::standard_modest))]
 pub fn scan(text: &[u8], words: &mut [u32], bytes: &mut [u8]) -> Result<Sizes, Refused>
     ensures { Answers standard text.now words.old bytes.old words.new bytes.new result }
 {

@@ -76,3 +76,5 @@ begins_token f g = g ∙ ap (λ (v : State). record_of (record { kind = kind.Str
 -- the numbers fit their words
 pub begins_small : {s : State} → s ≡ s_begin → (s.place.at < 2 ^ 32) × (s.indents.depth < 2 ^ 32) × (s.flow_level < 2 ^ 32)
 begins_small e = rw e (omega arith, omega arith, omega arith)
+
+pub ruleset begins = (begins_held, begins_token, begins_small)

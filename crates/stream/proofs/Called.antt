@@ -130,3 +130,6 @@ pub scan_told : (limits : Limits) (text h l b h₁ l₁ held h' l' b' : List ℕ
     → o ≡ v → length l' ≡ length l₁ → length b' ≡ length b → h' ≡ then_held held v → ScansOn limits text h l b h' l' b'
 scan_told limits text h l b h₁ l₁ held h' l' b' o v e d i j k t =
     record { outcome = v; held = held; steps = rw (e.0, e.1, i) at d; same_words = j ∙ ap length e.1; same_bytes = k; then = t }
+
+-- no stream is held that was begun with another text or other words
+pub ruleset lent_others = (long_not, few_not)

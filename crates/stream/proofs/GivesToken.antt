@@ -119,3 +119,5 @@ module _ {h l t h' l' t' : List ℕ} {v : Bool} (g : MayGive h l t h' l' t' v) (
 
   pub scan_calls : {limits : Limits} {text b h₂ l₂ b₂ r : List ℕ} {a : Result Next Refusal} → limits ≡ standard → Promises limits text h' l' b h₂ l₂ b₂ r a → Promises standard text h l b h₂ l₂ b₂ r a
   scan_calls i p = rw (i, (g.stays e).0, (g.stays e).1) at p
+
+pub ruleset scanned = (scan_asked, scan_calls)

@@ -24,6 +24,7 @@ use Rattle.sink.specs.Settle.{opener}
 use Rattle.events.specs.declared.Counts.{Counts}
 use Rattle.driver.specs.Held.{base_at, counts_at, phase_at, slot_at, until_at, word}
 use Rattle.stream.specs.declared.Next.TheVariants as next
+use Rattle.stream.specs.Phase.{closed_number}
 use Rattle.stream.specs.Words.{Gives, close_held, first_at, first_number, front_base, front_held, front_words, has_some, last_held, note_left, own, record_from, refusal_held, slot_held, token_words, words_left}
 
 -- a token is given: what the note n says goes in first, and what is left then
@@ -93,6 +94,9 @@ gives_first h l e g f = record { token = rw e at g.1; words = rw e at g.2; held 
 
 -- to the front
 
+pub slot_room : (h l : List ℕ) {k : ℕ} → k ≡ slot_held h → least_records * record_words ≤ length l → k * record_words + record_words ≤ length l
+slot_room h l e r = rw e (slot_fits h l r)
+
 module _ (h l : List ℕ) {slot base : ℕ} (e : slot ≡ slot_held h) (f : base ≡ at_most 1_073_741_824 (word h base_at) + slot) where
   base_is : base ≡ front_base h
   base_is = f ∙ ap (λ (k : ℕ). at_most 1_073_741_824 (word h base_at) + k) e
@@ -113,10 +117,9 @@ module _ (h l : List ℕ) {slot base : ℕ} (e : slot ≡ slot_held h) (f : base
   unfolding front_words
   front_stays i = let o : ltb (front_base h) (word h counts_at) ≡ false = le-ltb (front_base h) (word h counts_at) (omega (arith, base_is, count_is)) in rw o
 
--- what is held
+pub ruleset to_front_rules = (front_is, front_moves, front_stays, slot_room)
 
-pub slot_room : (h l : List ℕ) {k : ℕ} → k ≡ slot_held h → least_records * record_words ≤ length l → k * record_words + record_words ≤ length l
-slot_room h l e r = rw e (slot_fits h l r)
+-- what is held
 
 pub closed : (h : List ℕ) (m : Counts) {k : ℕ} → k ≡ at_most m.count (word (set h phase_at 2) base_at) → set (set h phase_at 2) until_at (m.count - k) ≡ close_held h m
 closed h m e = rw (e, get_or-set_other h phase_at base_at 2 0 (λ i. omega arith))
@@ -149,3 +152,5 @@ last_ended h e = rw e
 pub last_refused : (h : List ℕ) {f : Refusal} → (word h phase_at ≡ 2 → ⊥) → f ≡ refusal_held h → Err f ≡ last_held h
 unfolding last_held
 last_refused h d e = rw (ne_eqb (word h phase_at) 2 d, e)
+
+pub ruleset last_said = (last_ended, last_refused, closed_number)

@@ -11,6 +11,7 @@ use records::noted::Noted;
 use records::{RECORD_WORDS, empty_at, load, note_in, set_note, store};
 
 // The first token of the record that begins at `at`; whether it was its own.
+#[tactic(auto, using(crate::proofs::Lends::give_own))]
 fn give(words: &mut [u32], at: usize, token: &mut [u32; RECORD_WORDS]) -> bool
     requires { at + record_words ≤ length words.old }
     ensures { (result ≡ eqb (note_in (record_from words.old at)) 0) × (token.new ≡ token_words (record_from words.old at)) × (words.new ≡ words_left words.old at (note_in (record_from words.old at))) }
@@ -27,6 +28,7 @@ fn give(words: &mut [u32], at: usize, token: &mut [u32; RECORD_WORDS]) -> bool
 }
 
 // The first token that waits.
+#[tactic(auto, using(crate::proofs::Lends::slot_room, stacks::specs::Bit::bit_low))]
 pub(crate) fn give_first(
     held: &mut [u32; HELD_WORDS],
     words: &mut [u32],
@@ -41,6 +43,7 @@ pub(crate) fn give_first(
 }
 
 // The slot that may wait, and its number.
+#[tactic(auto, using(crate::proofs::Lends::to_front_rules))]
 pub(crate) fn to_front(held: &mut [u32; HELD_WORDS], words: &mut [u32])
     requires { least_records * record_words ≤ length words.old }
     ensures { (held.new ≡ front_held held.old) × (words.new ≡ front_words held.old words.old) }

@@ -37,6 +37,7 @@ pub enum Next {
 pub const LEAST_RECORDS: usize = 4_400;
 
 // StreamEnd was scanned: what waits can all be given.
+#[tactic(auto, using(crate::proofs::Lends::closed))]
 fn close(held: &mut [u32; HELD_WORDS], m: Counts)
     ensures { held.new ≡ close_held held.old m }
 {
@@ -45,6 +46,7 @@ fn close(held: &mut [u32; HELD_WORDS], m: Counts)
 }
 
 // Whether a token can be given.
+#[tactic(auto, unfolding(crate::specs::Words::has_some))]
 fn has_some(held: &[u32; HELD_WORDS], words: &[u32]) -> bool
     ensures { result ≡ has_some held.now (length words.now) }
 {
@@ -55,6 +57,7 @@ fn has_some(held: &[u32; HELD_WORDS], words: &[u32]) -> bool
 }
 
 // The first token that waits is given, if it can be; whether it was.
+#[tactic(auto, using(crate::proofs::Lends::some_told))]
 fn gives(held: &mut [u32; HELD_WORDS], words: &mut [u32], token: &mut [u32; RECORD_WORDS]) -> bool
     ensures { MayGive held.old words.old token.old held.new words.new token.new result }
 {
@@ -66,6 +69,7 @@ fn gives(held: &mut [u32; HELD_WORDS], words: &mut [u32], token: &mut [u32; RECO
 }
 
 // What is held says: a refusal, or the end.
+#[tactic(auto, using(crate::proofs::Lends::last_said))]
 fn last_answer(held: &[u32; HELD_WORDS], token: &mut [u32; RECORD_WORDS]) -> Result<Next, Refusal>
     ensures { (result ≡ last_held held.now) × (token.new ≡ no_token) }
 {
@@ -101,6 +105,7 @@ fn scan_on(
 }
 
 // A call where more has to be scanned, behind the first. 1 and 52 come here only where text or words are others than before.
+#[tactic(auto, using(crate::proofs::Called::lent_others))]
 fn go_on(
     limits: Limits,
     held: &mut [u32; HELD_WORDS],
@@ -126,6 +131,7 @@ fn go_on(
 }
 
 // A call where nothing can be given at once. It stands apart from its caller: so giving a token stays short there.
+#[inline(never)]
 fn next_scanned(
     limits: Limits,
     held: &mut [u32; HELD_WORDS],
@@ -145,6 +151,7 @@ fn next_scanned(
 }
 
 // The next token of a text. What is held is all zero at first; held, text, words and bytes are those of the call before.
+#[tactic(auto, using(crate::proofs::GivesToken::scanned))]
 pub fn next_token(
     held: &mut [u32; HELD_WORDS],
     text: &[u8],

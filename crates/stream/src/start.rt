@@ -65,6 +65,7 @@ pub(crate) fn refused(
 }
 
 // StreamStart is given, and the scan begins behind it.
+#[tactic(auto, using(crate::proofs::Begins::begins))]
 fn begin(held: &mut [u32; HELD_WORDS], token: &mut [u32; RECORD_WORDS])
     ensures { (held.new ≡ begun_held held.old) × (token.new ≡ record_of (empty_of kind.StreamStart origin)) }
 {
@@ -88,6 +89,7 @@ fn begin(held: &mut [u32; HELD_WORDS], token: &mut [u32; RECORD_WORDS])
 }
 
 // 1; 2 or 3, of the whole text; then 52; else StreamStart.
+#[tactic(auto, using(crate::proofs::Begins::text_begins))]
 pub(crate) fn start(
     limits: Limits,
     held: &mut [u32; HELD_WORDS],

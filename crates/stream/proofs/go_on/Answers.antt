@@ -1,16 +1,6 @@
--- Where 1 or 52 is answered no stream is held; else there is more to scan, or what is held says the answer.
-use Rattle.stream.proofs.Called.{few_not, long_not, scan_gives, scan_last}
+-- More was scanned: a token is given, or what is held says the answer.
+use Rattle.stream.proofs.Called.{scan_gives, scan_last}
 use Rattle.stream.proofs.go_on.Goals as goal
-
-pub returns-then-limits-text : goal.returns-then-limits-text
-returns-then-limits-text c =
-    let s = c.args in
-    long_not s.limits s.text.now s.held.now s.words.now s.bytes.now c.if-limits-text.true c.requires.2
-
-pub returns-then-words : goal.returns-then-words
-returns-then-words c =
-    let s = c.args in
-    few_not s.limits s.text.now s.held.now s.words.now s.bytes.now c.if-words.true c.requires.2
 
 pub returns-then-gives : goal.returns-then-gives
 returns-then-gives c =
