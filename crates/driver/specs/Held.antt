@@ -16,7 +16,7 @@ use Rattle.states.specs.declared.State.{State}
 use Rattle.states.specs.State.{state_of}
 use Rattle.stream_laws.specs.declared.Pending.{Pending}
 
--- limits that are at most 01's
+-- limits that are at most 01's. No type says so: all below the loop take Limits, and would be handed what is inside
 pub record Modest (limits : Limits) : Type 0 where
   pub bytes : limits.bytes ≤ standard.bytes
   pub levels : limits.levels ≤ standard.levels

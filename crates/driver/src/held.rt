@@ -1,4 +1,5 @@
-// What is held between two calls, as words: the stacks, then what waits, the counts, and the state of the scan.
+// What is held between two calls, as words: the stacks, then what waits, the counts, and the state of the scan. C holds it as an
+// array of words, so that it is no struct.
 ghost use Rattle.std.specs.Prelude.{◌≡◌, ◌^◌, ◌<◌, ◌≤◌, length};
 ghost use Rattle.driver.specs.Held.{Modest, counts_held, place_held, put_counts, put_state, state_held};
 

@@ -102,6 +102,7 @@ fn ending(n: Counts, ended: u32) -> Counts
 }
 
 // One token that is brief, before which so many blocks ended.
+// No struct holds what is lent: the fetchers take stacks and bytes, what stores takes the words, and each call would take it apart.
 fn brief_token(
     limits: Limits,
     text: &[u8],
@@ -370,6 +371,7 @@ fn load_pending(held: &[u32; HELD_WORDS], base: u32, n: Counts) -> Pending
 }
 
 // All steps from the state that is held; where tokens are given one at a time, up to the first behind which enough can be given.
+// `single` is a flag: a closure in its place would make a loop for each caller (docs/DESIGN.md), and would be handed all that behind_step is.
 pub fn all_steps(
     limits: Limits,
     text: &[u8],

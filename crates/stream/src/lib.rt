@@ -56,7 +56,7 @@ fn has_some(held: &[u32; HELD_WORDS], words: &[u32]) -> bool
     held[SLOT] < held[UNTIL]
 }
 
-// The first token that waits is given, if it can be; whether it was.
+// The first token that waits is given, if it can be; whether it was. Its record is written where C lent it, so that no Option holds it.
 #[tactic(auto, using(crate::proofs::Lends::some_told))]
 fn gives(held: &mut [u32; HELD_WORDS], words: &mut [u32], token: &mut [u32; RECORD_WORDS]) -> bool
     ensures { MayGive held.old words.old token.old held.new words.new token.new result }
