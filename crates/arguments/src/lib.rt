@@ -91,12 +91,7 @@ impl Taken {
     }
 
     // An option that takes a FILE, which is given once.
-    fn want_file(
-        self,
-        before: Option<usize>,
-        wants: Wants,
-        at: usize,
-    ) -> Result<Taken, Wrong> {
+    fn want_file(self, before: Option<usize>, wants: Wants, at: usize) -> Result<Taken, Wrong> {
         if before.is_some() {
             return fails(Fault::Again, at);
         }
@@ -161,8 +156,22 @@ impl Taken {
         let named = Some(at);
         match self.wants {
             Wants::Anything => self.take_any(verb, w, at),
-            Wants::Record => self.take_file(Plan { record: named, ..self.plan }, w, at),
-            Wants::Seeds => self.take_file(Plan { seeds: named, ..self.plan }, w, at),
+            Wants::Record => self.take_file(
+                Plan {
+                    record: named,
+                    ..self.plan
+                },
+                w,
+                at,
+            ),
+            Wants::Seeds => self.take_file(
+                Plan {
+                    seeds: named,
+                    ..self.plan
+                },
+                w,
+                at,
+            ),
             Wants::Sheet => self.take_last(w, at),
         }
     }

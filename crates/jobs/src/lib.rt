@@ -101,7 +101,9 @@ fn wrong_names(rt: &HostRuntime, names: Names) -> Option<&'static str> {
         return Some("the sheet itself can't be the FILE of --record or --seeds");
     }
     if would_mix(rt, names) {
-        return Some("standard output or error goes to the FILE of --record or --seeds. Name another FILE");
+        return Some(
+            "standard output or error goes to the FILE of --record or --seeds. Name another FILE",
+        );
     }
     None
 }

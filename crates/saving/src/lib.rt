@@ -46,7 +46,9 @@ fn letters(rt: &HostRuntime) -> [u8; BEHIND] {
 
 // The name of a new file beside FILE.
 fn name_beside(file: &str, behind: &str) -> Name {
-    Name::new().and_str(file, NAME_ROOM - BEHIND - 1).and_str(behind, BEHIND)
+    Name::new()
+        .and_str(file, NAME_ROOM - BEHIND - 1)
+        .and_str(behind, BEHIND)
 }
 
 // A new file: the name must not be taken.

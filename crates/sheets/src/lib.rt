@@ -74,12 +74,7 @@ fn read_some(from: &mut Source, room: &mut [u8]) -> io::Result<usize>
 
 // Reads until the room is full, the input ends or a read fails, and then standard error says why.
 // By hand: the next read goes behind what the one before has read, and how much that is each read says.
-pub fn read_sheet(
-    rt: &HostRuntime,
-    name: Option<&str>,
-    from: &mut Source,
-    room: &mut [u8],
-) -> Sheet
+pub fn read_sheet(rt: &HostRuntime, name: Option<&str>, from: &mut Source, room: &mut [u8]) -> Sheet
     ensures { Within (length room.new) result }
 {
     let mut n = 0;

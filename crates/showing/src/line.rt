@@ -117,7 +117,8 @@ fn text_end(text: &[u8]) -> usize
 fn left_out(all: usize, before: usize) -> usize
     ensures { (result ≤ all) × (result ≤ before) }
 {
-    all.saturating_sub(WINDOW).min(before.saturating_sub(BEFORE))
+    all.saturating_sub(WINDOW)
+        .min(before.saturating_sub(BEFORE))
 }
 
 // The window of a line around a place in it.

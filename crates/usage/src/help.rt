@@ -3,7 +3,8 @@ use outlets::Outlet;
 use std::io;
 
 // The ways to call the program.
-pub(crate) const USAGE: &str = "  tokenglade job [SHEET] [--record FILE] [--seeds FILE] [--allow-empty]
+pub(crate) const USAGE: &str =
+    "  tokenglade job [SHEET] [--record FILE] [--seeds FILE] [--allow-empty]
   tokenglade tokens [SHEET]
   tokenglade help
 ";

@@ -45,7 +45,13 @@ pub struct Open {
 impl Display for Open {
     fn fmt<W: fmt::Write>(&self, f: &mut fmt::Formatter<W>) -> fmt::Result {
         let col = self.mark.col as u64 + 1;
-        write!(f, "{} of {}:{}", self.bracket.opening(), self.mark.line, col)
+        write!(
+            f,
+            "{} of {}:{}",
+            self.bracket.opening(),
+            self.mark.line,
+            col
+        )
     }
 }
 
@@ -58,7 +64,15 @@ fn write_adding(
     behind: &str,
 ) -> fmt::Result {
     match open {
-        Some(o) => write!(out, "{}{}{}{}{}", before, o, between, o.bracket.closing(), behind),
+        Some(o) => write!(
+            out,
+            "{}{}{}{}{}",
+            before,
+            o,
+            between,
+            o.bracket.closing(),
+            behind
+        ),
         None => write!(out, "{}a bracket{}']' or '}}'{}", before, between, behind),
     }
 }
@@ -88,16 +102,13 @@ fn write_closing(out: &mut Message, b: Bracket, open: Open) -> fmt::Result {
         return write!(
             out,
             "this {} comes before the {} of a bracket that is still open. Write that before it",
-            closing,
-            other
+            closing, other
         );
     }
     write!(
         out,
         "{} is still open, and {} does not close it. Write {} instead, or before it",
-        open,
-        closing,
-        other
+        open, closing, other
     )
 }
 
