@@ -14,7 +14,7 @@ ghost use Rattle.listing.specs.Sheet.{Lists};
 
 use arguments::count;
 use arguments::word::MOST_WORD;
-use outlets::{Outlet, fail};
+use outlets::{Outlet, fail, say};
 use printing::{put_numbers, put_records};
 use records::RECORD_WORDS;
 use scanner::{Refused, Sizes, scan_with};
@@ -22,6 +22,7 @@ use sheets::{Sheet, Source, open_file, read_sheet};
 use std::env::FillError;
 use std::io;
 use std::rt::Env;
+use std::str::from_utf8;
 use yaml_scan::Limits;
 
 // The listing of an answer, with what the words hold; how long it is.
@@ -78,15 +79,13 @@ fn write_listing(rt: &HostRuntime, room: &[u8], read: Sheet)
 {
     let mut out = [0u8; 113014];
     let n = list_read(room, read, &mut out);
-    let mut to = Outlet::output(rt);
-    if to.put(&out[0..n]) {
-        return;
+    if let Err(e) = Outlet::Output(rt.stdout()).put(&out[..n]) {
+        fail(rt, "standard output", e);
     }
-    to.fail(rt, b"standard output");
 }
 
 // Lists the sheet that is read from a source. Of a part of one nothing is listed, and standard error has its name and what failed.
-fn list_sheet(rt: &HostRuntime, name: &[u8], from: &mut Source) {
+fn list_sheet(rt: &HostRuntime, name: Option<&str>, from: &mut Source) {
     let mut room = [0u8; 513];
     let read = read_sheet(rt, name, from, &mut room);
     match read {
@@ -97,13 +96,13 @@ fn list_sheet(rt: &HostRuntime, name: &[u8], from: &mut Source) {
 
 // Lists standard input.
 fn list_input(rt: &HostRuntime) {
-    list_sheet(rt, b"", &mut Source::Input(rt.stdin()));
+    list_sheet(rt, None, &mut Source::Input(rt.stdin()));
 }
 
 // Lists the sheet that a file holds.
-fn list_file(rt: &HostRuntime, name: &[u8]) {
+fn list_file(rt: &HostRuntime, name: &str) {
     if let Some(mut from) = open_file(rt, name) {
-        list_sheet(rt, name, &mut from);
+        list_sheet(rt, Some(name), &mut from);
     }
 }
 
@@ -120,14 +119,19 @@ fn list_argument(rt: &HostRuntime, i: usize) {
     let mut space = [0u8; MOST_WORD];
     match rt.arg(i, &mut space) {
         Ok(n) => list_named(rt, &space[..n]),
-        Err(e) => fail(rt, b"argument", why(e)),
+        Err(e) => fail(rt, "argument", why(e)),
     }
 }
 
+// A name that is no text can't be opened.
 fn list_named(rt: &HostRuntime, name: &[u8]) {
-    match name {
-        b"-" => list_input(rt),
-        _ => list_file(rt, name),
+    match from_utf8(name) {
+        Ok("-") => list_input(rt),
+        Ok(file) => list_file(rt, file),
+        Err(_) => {
+            say(rt, name);
+            say(rt, b": the name is not UTF-8\n");
+        }
     }
 }
 
