@@ -12,8 +12,8 @@ ghost use Rattle.directives.specs.Name.{NameAt, name_in, spaced};
 use chars::class::NonSpace;
 use chars::mark::Place;
 use gaps::skip_blanks;
-use reading::{Lexeme, Written, text_at};
-use rooms::{as_word, copy, put};
+use reading::{Lexeme, Written, texts_at};
+use rooms::{copy, put};
 use runs::run_of;
 use yaml_lexeme::Kind;
 use yaml_text::Mark;
@@ -58,8 +58,7 @@ pub fn reserved_directive(text: &[u8], start: Mark, p: Place, used: u32, out: &m
     copy(out, 0, &text[1..p.at]);
     let n = p.at - 1;
     let r = read_parameters(text, p, n, out);
-    let name = text_at(used, n);
-    let parameters = text_at(used + as_word(n), r.count - n);
+    let (name, parameters) = texts_at(used, n, r.count - n);
     Lexeme::new(
         Kind::ReservedDirective { name, parameters },
         start,

@@ -15,8 +15,8 @@ use chars::code::EXCLAMATION;
 use chars::mark::Place;
 use chars::refuse::refuse;
 use gaps::skip_blanks;
-use reading::{Lexeme, text_at};
-use rooms::{as_word, copy};
+use reading::{Lexeme, texts_at};
+use rooms::copy;
 use runs::{run_of, uri_run};
 use utf8::{byte, look};
 use yaml_lexeme::Kind;
@@ -68,8 +68,7 @@ fn read_prefix(
     if !is_blank_or_breakz(look(text, e.at)) {
         return refuse(19, start);
     }
-    let handle = text_at(used, n);
-    let prefix = text_at(used + as_word(n), w.count - n);
+    let (handle, prefix) = texts_at(used, n, w.count - n);
     Ok(Lexeme::new(Kind::TagDirective { handle, prefix }, start, e.mark, e))
 }
 

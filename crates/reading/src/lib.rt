@@ -44,6 +44,16 @@ pub fn text_at(used: u32, n: usize) -> Text
     }
 }
 
+// Two texts behind the bytes used so far, one right behind the other.
+pub fn texts_at(used: u32, one: usize, other: usize) -> (Text, Text)
+    requires { used + one % 2 ^ 32 < 2 ^ 32 }
+    ensures { (result.0 ≡ record { at = used; len = one % 2 ^ 32 }) × (result.1 ≡ record { at = used + one % 2 ^ 32; len = other % 2 ^ 32 }) }
+{
+    let first = text_at(used, one);
+    let second = text_at(used + first.len, other);
+    (first, second)
+}
+
 // Zeros in all lent bytes.
 pub fn clear(out: &mut [u8])
     ensures { out.new ≡ replicate (length out.old) 0 }

@@ -2,7 +2,7 @@
 use Prim.Native.Nat.{◌+◌, ◌≤◌, ℕ}
 use mathlib.Core.Bool.{Bool, false, true}
 use mathlib.Core.List.{List, [], ◌++◌, ◌∷◌, append_assoc, append-nil}
-use mathlib.Core.Path.{◌∙◌, ◌≡◌, ap, refl, sym}
+use mathlib.Core.Path.{◌∙◌, ◌≡◌, ap, sym}
 use native.Mathlib.Omega.{arith}
 use lib.ListN.{drop}
 use Rattle.yaml_text.specs.declared.Decoded.{Decoded}
@@ -11,7 +11,7 @@ use Rattle.yaml_text.specs.MarkLaws.{run_of_more, run_of_stop}
 use Rattle.yaml_text.specs.Utf8.{char_bytes, chars, encode, first}
 use Rattle.chars.specs.declared.mark.Place.{Place}
 use Rattle.chars.specs.Bytes.{CharAt, NoChar, none_told}
-use Rattle.chars.specs.Parts.{Spans, part, part_more, part_none}
+use Rattle.chars.specs.Parts.{Spans, part, part_more}
 use Rattle.chars.specs.Places.{stands_along}
 use Rattle.chars.specs.View.{Stands, past, view}
 

@@ -11,8 +11,8 @@ ghost use Rattle.tags.specs.Texts.{Lays, NameAt, Tagged, name_in};
 use chars::class::{Alpha, TagChar, UriChar, is_blank_or_breakz, is_flow};
 use chars::mark::Place;
 use chars::refuse::refuse;
-use reading::{Lexeme, clear_refused, text_at};
-use rooms::{as_word, copy};
+use reading::{Lexeme, clear_refused, texts_at};
+use rooms::copy;
 use runs::{run_of, uri_run};
 use utf8::{byte, look};
 use yaml_lexeme::Kind;
@@ -122,8 +122,7 @@ fn read_tag(
     if !ends_tag(flow, look(text, t.place.at)) {
         return refuse(26, end);
     }
-    let handle = text_at(used, t.one);
-    let suffix = text_at(used + as_word(t.one), t.other);
+    let (handle, suffix) = texts_at(used, t.one, t.other);
     Ok(Lexeme::new(Kind::Tag { handle, suffix }, start, end, t.place))
 }
 

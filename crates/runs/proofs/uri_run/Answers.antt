@@ -1,5 +1,5 @@
 -- The invariant: what was written, with the run that is left, is the whole run.
-use Rattle.std.proofs.Common.{◌<◌, ◌≡◌, true, arith, sym}
+use Rattle.std.proofs.Common.{◌≡◌, true, arith, sym}
 use Rattle.chars.specs.Ascii.{ascii_low}
 use Rattle.chars.specs.Bytes.{CharAt, ascii_char}
 use Rattle.runs.proofs.Writing.{running_more, running_on, running_refused, running_stop}

@@ -27,4 +27,4 @@ returns c =
     let w = prefix_some _ c.byte.ensures (sym c.if-not-begins_prefix.ensures) c.in_ok-w.ensures.writes in
     rw c.new.ensures
     (prefix_ended _ c.skip_blanks-q.ensures w c.look.ensures g.0 g.2 g.3 (sym c.if-not-is_blank_or_breakz.ensures)
-    c.text_at-handle.ensures c.as_word.ensures c.text_at-prefix.ensures)
+    c.texts_at.ensures.0 refl c.texts_at.ensures.1)

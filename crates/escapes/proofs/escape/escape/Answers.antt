@@ -1,5 +1,5 @@
 -- Each way out is what the definition makes of the letter behind the backslash.
-use Rattle.std.proofs.Common.{◌+◌, arith, rules, sym}
+use Rattle.std.proofs.Common.{◌+◌, arith, sym}
 use Rattle.chars.specs.Reach.{reach_within}
 use Rattle.escapes.specs.CodePoint.{scalar_small}
 use Rattle.escapes.proofs.Answers.{answers, refuses}

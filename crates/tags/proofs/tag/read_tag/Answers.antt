@@ -20,4 +20,4 @@ pub returns : goal.returns
 returns c =
     rw c.new.ensures
     (tag_ended _ c.requires.0 c.in_ok-t.ensures c.look.ensures (sym c.if-not-ends_tag.ensures)
-    c.text_at-handle.ensures c.as_word.ensures c.text_at-suffix.ensures)
+    c.texts_at.ensures.0 refl c.texts_at.ensures.1)
