@@ -27,7 +27,8 @@ impl Lexeme {
     }
 }
 
-// Texts that were written, up to `count`, where the next byte goes, with the place behind what was read.
+// Texts that were written, up to `count`, where the next byte goes, with the place behind what was read. It counts on where the room is
+// full, so it is no length of a slice, and stands beside the room.
 #[derive(Clone, Copy)]
 pub struct Written {
     pub count: usize,
