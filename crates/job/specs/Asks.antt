@@ -20,9 +20,10 @@ use Rattle.stream.specs.declared.Next.{Next}
 use Rattle.stream.specs.declared.Next.TheVariants as next
 use Rattle.job.specs.declared.Asked.{Asked}
 use Rattle.job.specs.declared.Asked.TheVariants.{Goes, Replies}
-use Rattle.job.specs.declared.Reader.TheVariants.{Ended, Reading}
+use Rattle.job.specs.declared.Reader.TheVariants.{Ended}
 use Rattle.job.specs.declared.Replied.{Replied}
 use Rattle.job.specs.JobHolds.{ReaderHolds, StreamHeld}
+use Rattle.job.specs.Own.{reading_at}
 use Rattle.job.specs.Sees.{seen}
 
 -- what the code makes of a token, and of an answer of the stream
@@ -35,10 +36,10 @@ abbrev pub next_count : ℕ → ℕ
 next_count n = at_most 4_294_967_294 n + 1
 
 abbrev pub hands : ℕ → ShapePlace → Met → ℕ → Asked
-hands v p m n = Replies (record { answer = Seed v n; reader = Reading p m n })
+hands v p m n = Replies (record { answer = Seed v n; reader = reading_at p m n })
 
 abbrev pub lost : ShapePlace → Met → ℕ → Replied
-lost p m n = record { answer = Lost; reader = Reading p m n }
+lost p m n = record { answer = Lost; reader = reading_at p m n }
 
 abbrev pub from_effect : Effect → Mark → ℕ → Asked
 from_effect (Passes p m) k n = Goes p m

@@ -12,6 +12,7 @@ use Rattle.yaml_job.specs.declared.ShapePlace.{ShapePlace}
 use Rattle.yaml_job.specs.Job.{Job, closed, job_call, reading}
 use Rattle.driver.specs.Held.{held_words}
 use Rattle.stream.specs.Holds.{Holds}
+use Rattle.job.specs.declared.Standing.{Standing}
 use Rattle.job.specs.declared.Reader.{Reader}
 use Rattle.job.specs.declared.Reader.TheVariants.{Ended, Reading}
 use Rattle.job.specs.Own.{reader_in}
@@ -29,7 +30,7 @@ pub record StreamHeld (limits : Limits) (text h l b : List ℕ) (n : ℕ) (x : S
 
 -- what the reader knows, and what the stream holds (h), of a job
 pub data ReaderHolds (limits : Limits) (text h l b : List ℕ) : Reader → Job → Type 0 where
-  reads : {x : Stream} {p : ShapePlace} {m : Met} {n : ℕ} → StreamHeld limits text h l b n x → ReaderHolds limits text h l b (Reading p m n) (reading x p m n)
+  reads : {x : Stream} {s : Standing} → StreamHeld limits text h l b s.count x → ReaderHolds limits text h l b (Reading s) (reading x s.place s.met s.count)
   has_closed : {c : Closing} → ReaderHolds limits text h l b (Ended c) (closed c)
 
 abbrev pub JobHolds : Limits → List ℕ → List ℕ → List ℕ → List ℕ → Job → Type 0

@@ -81,8 +81,11 @@ abbrev pub closed_words : Closing → List ℕ
 closed_words (Done n) = done_number ∷ 0 ∷ 0 ∷ 0 ∷ 0 ∷ 0 ∷ n ∷ 0 ∷ 0 ∷ 0 ∷ 0 ∷ []
 closed_words (NotDone r k n) = not_done_number ∷ 0 ∷ 0 ∷ 0 ∷ 0 ∷ 0 ∷ n ∷ r ∷ mark_words k []
 
+abbrev pub reading_at : ShapePlace → Met → ℕ → Reader
+reading_at p m n = Reading (record { place = p; met = m; count = n })
+
 unfoldable pub reader_words : Reader → List ℕ
-reader_words (Reading p m n) = reading_words p m n
+reader_words (Reading s) = reading_words s.place s.met s.count
 reader_words (Ended c) = closed_words c
 
 -- the reader of a state, whatever it holds
@@ -108,7 +111,7 @@ abbrev pub met_in : List ℕ → Met
 met_in st = record { sample = not (eqb (word st met_at) 0); panel = not (eqb (word st (met_at + 1)) 0); seeds = not (eqb (word st (met_at + 2)) 0) }
 
 abbrev pub reading_in : List ℕ → Reader
-reading_in st = Reading (place_of (word st place_at) (form_of (word st (place_at + 1))) (field_of (word st (place_at + 2)))) (met_in st) (word st count_at)
+reading_in st = reading_at (place_of (word st place_at) (form_of (word st (place_at + 1))) (field_of (word st (place_at + 2)))) (met_in st) (word st count_at)
 
 abbrev pub refused_in : List ℕ → Closing
 refused_in st = NotDone (word st number_at) (mark_in st mark_at) (word st count_at)

@@ -17,7 +17,7 @@ use Rattle.stacks.proofs.Frames.{get_d_sets}
 use Rattle.driver.specs.Held.{held_words, word}
 use Rattle.job.specs.declared.Reader.{Reader}
 use Rattle.job.specs.declared.Reader.TheVariants.{Ended, Reading}
-use Rattle.job.specs.Own.{count_at, done_number, field_number, field_of, flag, form_number, form_of, job_words, met_in, not_done_number, own_words, place_at, place_of, place_words, reader_in, reader_words, reading_in, refused_in}
+use Rattle.job.specs.Own.{count_at, done_number, field_number, field_of, flag, form_number, form_of, job_words, met_in, not_done_number, own_words, place_at, place_of, place_words, reader_in, reader_words, reading_at, reading_in, refused_in}
 
 -- no arm of a match was taken: its keys are the numbers below k
 
@@ -44,7 +44,7 @@ unfolding reader_in
 not_closed_in st o = rw (ne_eqb (word st place_at) done_number o.0.1, ne_eqb (word st place_at) not_done_number o.1)
 
 pub reading_from : (st : List ℕ) {g : Form} {f : Field} {p : ShapePlace} → g ≡ form_of (word st (place_at + 1)) → f ≡ field_of (word st (place_at + 2))
-    → p ≡ place_of (word st place_at) g f → Reading p (met_in st) (word st count_at) ≡ reading_in st
+    → p ≡ place_of (word st place_at) g f → reading_at p (met_in st) (word st count_at) ≡ reading_in st
 reading_from st a b c = rw (c, a, b)
 
 -- each number is read back
@@ -83,7 +83,7 @@ place_back AtEnd = (refl, refl, refl)
 
 pub own_length : (r : Reader) → length (reader_words r) ≡ own_words
 unfolding reader_words
-own_length (Reading p m n) = refl
+own_length (Reading s) = refl
 own_length (Ended (Done n)) = refl
 own_length (Ended (NotDone r k n)) = refl
 
@@ -91,10 +91,10 @@ reader_read : (st : List ℕ) (r : Reader) → ((j : ℕ) → j < own_words → 
 unfolding reader_in reader_words
 reader_read st (Ended (Done n)) w = rw (w 0 (omega arith), w 6 (omega arith))
 reader_read st (Ended (NotDone r k n)) w = rw (w 0 (omega arith), w 6 (omega arith), w 7 (omega arith), w 8 (omega arith), w 9 (omega arith), w 10 (omega arith))
-reader_read st (Reading p m n) w =
-    let b = place_back p in
+reader_read st (Reading s) w =
+    let b = place_back s.place in
     rw (w 0 (omega arith), w 1 (omega arith), w 2 (omega arith), w 3 (omega arith), w 4 (omega arith), w 5 (omega arith), w 6 (omega arith))
-    (rw (b.0, b.1, b.2, flag_back m.sample, flag_back m.panel, flag_back m.seeds))
+    (rw (b.0, b.1, b.2, flag_back s.met.sample, flag_back s.met.panel, flag_back s.met.seeds))
 
 -- a reader that was stored is read back; the stream's words stay
 
@@ -136,10 +136,10 @@ parts_stored st h ws e f g =
 
 -- a state that is all zero
 
-pub zeros_reader : (st : List ℕ) → st ≡ replicate job_words 0 → reader_in st ≡ Reading AtStart none_met 0
+pub zeros_reader : (st : List ℕ) → st ≡ replicate job_words 0 → reader_in st ≡ reading_at AtStart none_met 0
 unfolding reader_words
 zeros_reader st e =
-    reader_read st (Reading AtStart none_met 0)
+    reader_read st (reading_at AtStart none_met 0)
     (λ j o. ap (λ (l : List ℕ). word l (held_words + j)) e ∙ get_or-replicate job_words (held_words + j) 0 0 (omega arith) ∙ sym (get_or-replicate own_words j 0 0 o))
 
 take_replicate : (n m a : ℕ) → take n (replicate (n + m) a) ≡ replicate n a

@@ -25,14 +25,18 @@ use yaml_text::{Mark, Refusal};
 // Words that are kept from call to call: the stream's, then the reader's own.
 pub const JOB_WORDS: usize = HELD_WORDS + OWN_WORDS;
 
+// Where a reader stands: the place in the shape, the fields met, and how many seeds were handed over.
+#[derive(Clone, Copy)]
+pub struct Standing {
+    pub place: ShapePlace,
+    pub met: Met,
+    pub count: u32,
+}
+
 // What the reader knows between two calls, besides the stream.
 #[derive(Clone, Copy)]
 pub enum Reader {
-    Reading {
-        place: ShapePlace,
-        met: Met,
-        count: u32,
-    },
+    Reading(Standing),
     Ended(Closing),
 }
 
@@ -69,16 +73,16 @@ fn hands(value: u32, place: ShapePlace, met: Met, n: u32) -> Asked
     let count = n.saturating_add(1);
     Asked::Replies(Replied {
         answer: JobAnswer::Seed { value, count },
-        reader: Reader::Reading { place, met, count },
+        reader: Reader::Reading(Standing { place, met, count }),
     })
 }
 
-fn lost(place: ShapePlace, met: Met, count: u32) -> Replied
-    ensures { result ≡ lost place met count }
+fn lost(s: Standing) -> Replied
+    ensures { result ≡ lost s.place s.met s.count }
 {
     Replied {
         answer: JobAnswer::Lost,
-        reader: Reader::Reading { place, met, count },
+        reader: Reader::Reading(s),
     }
 }
 
@@ -121,15 +125,17 @@ fn by_answer(
     a: Result<Next, Refusal>,
     token: [u32; RECORD_WORDS],
     bytes: &[u8],
-    place: ShapePlace,
-    met: Met,
-    count: u32,
+    s: Standing,
 ) -> Asked
-    ensures { result ≡ from_answer a token bytes.now place met count }
+    ensures { result ≡ from_answer a token bytes.now s.place s.met s.count }
 {
+    let count = s.count;
     match a {
-        Ok(Next::Token) => by_effect(effect_of(token, bytes, place, met), start_of(token), count),
-        Ok(Next::Ended) => Asked::Replies(lost(place, met, count)),
+        Ok(Next::Token) => {
+            let e = effect_of(token, bytes, s.place, s.met);
+            by_effect(e, start_of(token), count)
+        }
+        Ok(Next::Ended) => Asked::Replies(lost(s)),
         Err(f) => closes(Closing::NotDone {
             number: f.number,
             mark: f.mark,
@@ -138,21 +144,19 @@ fn by_answer(
     }
 }
 
-// Asks for one token.
+// Asks for one token. What is held, the text and the rooms stay apart, since C lends them so.
 fn ask(
     held: &mut [u32; HELD_WORDS],
     text: &[u8],
     words: &mut [u32],
     bytes: &mut [u8],
-    place: ShapePlace,
-    met: Met,
-    count: u32,
+    s: Standing,
 ) -> Asked
-    ensures { AskPromises standard text.now held.old words.old bytes.old held.new words.new bytes.new place met count result }
+    ensures { AskPromises standard text.now held.old words.old bytes.old held.new words.new bytes.new s.place s.met s.count result }
 {
     let mut token = [0u32; RECORD_WORDS];
     let a = next_token(held, text, words, bytes, &mut token);
-    by_answer(a, token, bytes, place, met, count)
+    by_answer(a, token, bytes, s)
 }
 
 // Asks for tokens until a seed is handed over or the job closes.
@@ -161,25 +165,25 @@ fn asks(
     text: &[u8],
     words: &mut [u32],
     bytes: &mut [u8],
-    place: ShapePlace,
-    met: Met,
-    count: u32,
+    s: Standing,
 ) -> Replied
-    ensures promise { AsksPromise standard text.now most_asked held.old words.old bytes.old held.new words.new bytes.new place met count result }
+    ensures promise { AsksPromise standard text.now most_asked held.old words.old bytes.old held.new words.new bytes.new s.place s.met s.count result }
     ensures same_length { length held.new ≡ held_words }
 {
-    let mut p = place;
-    let mut m = met;
+    let mut at = s;
     for _ in 0..MOST_ASKED {
-        match ask(held, text, words, bytes, p, m, count) {
+        match ask(held, text, words, bytes, at) {
             Asked::Goes { place, met } => {
-                p = place;
-                m = met;
+                at = Standing {
+                    place,
+                    met,
+                    count: s.count,
+                };
             }
             Asked::Replies(r) => return r,
         }
     }
-    lost(p, m, count)
+    lost(at)
 }
 
 // Where no closing record was given yet.
@@ -188,15 +192,13 @@ fn read_on(
     text: &[u8],
     words: &mut [u32],
     bytes: &mut [u8],
-    place: ShapePlace,
-    met: Met,
-    count: u32,
+    s: Standing,
 ) -> JobAnswer
-    requires { reader_in state.old ≡ Reading place met count }
+    requires { reader_in state.old ≡ Reading s }
     ensures { JobPromises standard text.now state.old words.old bytes.old state.new words.new bytes.new result }
 {
     let (held, own) = state.split_first_chunk_mut::<HELD_WORDS>().unwrap();
-    let r = asks(held, text, words, bytes, place, met, count);
+    let r = asks(held, text, words, bytes, s);
     own.copy_from_slice(&reader_words(r.reader));
     r.answer
 }
@@ -212,8 +214,6 @@ pub fn next_seed(
 {
     match reader_in(state) {
         Reader::Ended(c) => JobAnswer::Closed(c),
-        Reader::Reading { place, met, count } => {
-            read_on(state, text, words, bytes, place, met, count)
-        }
+        Reader::Reading(s) => read_on(state, text, words, bytes, s),
     }
 }

@@ -2,7 +2,7 @@
 ghost use Rattle.std.specs.Prelude.{◌≡◌};
 ghost use Rattle.job.specs.Own.{closed_words, field_of, form_of, place_of, place_words, reader_in, reader_words, reading_in, reading_words, refused_in};
 
-use crate::{JOB_WORDS, Reader};
+use crate::{JOB_WORDS, Reader, Standing};
 use driver::held::HELD_WORDS;
 use yaml_job::{Closing, Field, Form, Met, ShapePlace};
 use yaml_text::Mark;
@@ -100,10 +100,11 @@ fn closed_words(c: Closing) -> [u32; OWN_WORDS]
     }
 }
 
-fn reading_words(place: ShapePlace, met: Met, count: u32) -> [u32; OWN_WORDS]
-    ensures { result ≡ reading_words place met count }
+fn reading_words(s: Standing) -> [u32; OWN_WORDS]
+    ensures { result ≡ reading_words s.place s.met s.count }
 {
-    let p = place_words(place);
+    let p = place_words(s.place);
+    let met = s.met;
     [
         p[0],
         p[1],
@@ -111,7 +112,7 @@ fn reading_words(place: ShapePlace, met: Met, count: u32) -> [u32; OWN_WORDS]
         met.sample as u32,
         met.panel as u32,
         met.seeds as u32,
-        count,
+        s.count,
         0,
         0,
         0,
@@ -124,7 +125,7 @@ pub(crate) fn reader_words(r: Reader) -> [u32; OWN_WORDS]
     ensures { result ≡ reader_words r }
 {
     match r {
-        Reader::Reading { place, met, count } => reading_words(place, met, count),
+        Reader::Reading(s) => reading_words(s),
         Reader::Ended(c) => closed_words(c),
     }
 }
@@ -152,11 +153,11 @@ fn reading_in(state: &[u32; JOB_WORDS]) -> Reader
         panel: state[MET + 1] != 0,
         seeds: state[MET + 2] != 0,
     };
-    Reader::Reading {
+    Reader::Reading(Standing {
         place: place_of(state[PLACE], form_of(state[FORM]), field_of(state[FIELD])),
-        met: met,
+        met,
         count: state[COUNT],
-    }
+    })
 }
 
 pub(crate) fn reader_in(state: &[u32; JOB_WORDS]) -> Reader

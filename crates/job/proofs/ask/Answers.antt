@@ -7,4 +7,4 @@ returns c =
     let s = c.args in
     let o = c.next_token-a in
     ask_told s.text.now s.held.now s.words.now s.bytes.now o.new.held o.new.words o.new.bytes o.new.token
-    s.place s.met s.count o.result c.by_answer.result o.auto.words o.auto.bytes o.ensures c.by_answer.ensures
+    s.s.place s.s.met s.s.count o.result c.by_answer.result o.auto.words o.auto.bytes o.ensures c.by_answer.ensures

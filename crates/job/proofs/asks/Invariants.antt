@@ -1,4 +1,4 @@
-use Rattle.std.proofs.Common.{◌-◌}
+use Rattle.std.proofs.Common.{◌-◌, ◌≡◌}
 use Rattle.yaml_scan.specs.Scan.{standard}
 use Rattle.yaml_job.specs.Job.{most_asked}
 use Rattle.job.specs.Asks.{AsksOn}
@@ -6,4 +6,5 @@ use Rattle.job.proofs.asks.Given as goal
 
 abbrev pub invariant-loop : goal.invariant-loop
 invariant-loop l =
-    AsksOn standard l.text l.initial.held l.initial.words l.initial.bytes l.initial.p l.initial.m l.count most_asked l.held l.words l.bytes l.p l.m (most_asked - l.counter)
+    (l.at.count ≡ l.s.count)
+    × AsksOn standard l.text l.initial.held l.initial.words l.initial.bytes l.s.place l.s.met l.s.count most_asked l.held l.words l.bytes l.at.place l.at.met (most_asked - l.counter)

@@ -19,6 +19,6 @@ returns c =
     let long : length ws ≡ own_words = ap length own ∙ own_length o.result.reader in
     read_told standard s.text.now st s.words.now s.bytes.now (o.new.held ++ ws)
     o.new.held o.new.words o.new.bytes ws
-    s.place s.met s.count o.result c.told-state c.requires
+    s.s.place s.s.met s.s.count o.result c.told-state c.requires
     (o.ensures.same_length ∙ sym (length-take-le held_words st (omega arith))) own
     (parts_stored st o.new.held ws c.told-state o.ensures.same_length long) (rw lent at o.ensures.promise)
