@@ -3,6 +3,8 @@
 
 pub mod word;
 
+ghost use Rattle.std.specs.Prelude.{◌≤◌, length, IfSome};
+
 use crate::word::{MOST_WORD, Word, word_at};
 use std::env::FillError;
 use std::rt::Env;
@@ -228,7 +230,9 @@ pub fn read_arguments(rt: &HostRuntime, verb: Verb) -> Result<Plan, Wrong> {
 }
 
 // A word of the command line, by its number; none where it is missing or has more bytes than the space.
-pub fn copy_word<'a>(rt: &HostRuntime, at: usize, space: &'a mut [u8]) -> Option<&'a [u8]> {
+pub fn copy_word<'a>(rt: &HostRuntime, at: usize, space: &'a mut [u8]) -> Option<&'a [u8]>
+    ensures { IfSome result (λ w. length w.now ≤ length space.old) }
+{
     let n = rt.arg(at, space).ok()?;
     Some(&space[..n])
 }
@@ -238,7 +242,9 @@ pub fn name_at<'a>(
     rt: &HostRuntime,
     at: Option<usize>,
     space: &'a mut [u8; MOST_WORD],
-) -> Option<&'a str> {
+) -> Option<&'a str>
+    ensures { IfSome result (λ w. length w.now ≤ 4_096) }
+{
     let word = copy_word(rt, at?, space)?;
     let name = from_utf8(word).ok()?;
     if name == "-" { None } else { Some(name) }

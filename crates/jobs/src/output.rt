@@ -1,11 +1,15 @@
 // Where the seeds go: standard output, or a FILE.
 use crate::names::Names;
-use saving::{Begun, begin_file, begin_output, close_output, finish_file};
+use outlets::Outlet;
+use saving::{Begun, begin_file, close_output, finish_file};
 
 pub(crate) fn begin_seeds(rt: &HostRuntime, names: Names) -> Option<Begun> {
     match names.seeds {
         Some(file) => begin_file(rt, file),
-        None => Some(begin_output(rt)),
+        None => Some(Begun {
+            out: Outlet::Output(rt.stdout()),
+            name: None,
+        }),
     }
 }
 

@@ -14,7 +14,9 @@ pub struct Buffered<'a, const N: usize> {
 }
 
 impl<'a, const N: usize> Buffered<'a, N> {
-    pub fn new(outlet: &'a mut Outlet) -> Self {
+    pub fn new(outlet: &'a mut Outlet) -> Self
+        ensures { result.used ≡ 0 }
+    {
         Buffered {
             outlet,
             bytes: [0; N],

@@ -11,25 +11,17 @@ use std::str::from_utf8;
 use std::{fs, io};
 
 // Room for a name of up to 4,096 bytes, and what a file's own name has behind it.
-const NAME_ROOM: usize = 4104;
+pub const NAME_ROOM: usize = 4104;
 
 const BEHIND: usize = 7;
 
-type Name = InlineText<NAME_ROOM>;
+pub type Name = InlineText<NAME_ROOM>;
 
 // A file that is being written, with its own name; or standard output, which has none.
 #[derive(Drop)]
 pub struct Begun {
     pub out: Outlet,
-    name: Option<Name>,
-}
-
-// Standard output.
-pub fn begin_output(rt: &HostRuntime) -> Begun {
-    Begun {
-        out: Outlet::Output(rt.stdout()),
-        name: None,
-    }
+    pub name: Option<Name>,
 }
 
 fn letter(b: u8) -> u8 {

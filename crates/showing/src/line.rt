@@ -89,7 +89,7 @@ fn line_start(text: &[u8], place: usize) -> usize
 }
 
 // Where the line ends in which a place stands.
-fn line_end(text: &[u8], place: usize) -> usize
+pub fn line_end(text: &[u8], place: usize) -> usize
     requires { place ≤ length text.now }
     ensures { (place ≤ result) × (result ≤ length text.now) }
 {
