@@ -1,6 +1,6 @@
 -- Lines.
-use Rattle.std.specs.Prelude.{◌+◌, ◌<◌, ◌≤◌, suc, ℕ, Bool, false, not, refl, true, List, [], ◌∷◌, ◌≡◌, eqb, drop, get_or, length}
-use Rattle.std.proofs.Common.{add-one, ap, arith, drop_of_length-le, length-drop, drop-cons, ne_eqb}
+use Rattle.std.specs.Prelude.{◌+◌, ◌≤◌, suc, ℕ, Bool, false, not, refl, true, List, [], ◌∷◌, ◌≡◌, eqb, drop, length}
+use Rattle.std.proofs.Common.{arith, length-drop}
 use Rattle.std.specs.List.{prefix_len}
 use Rattle.yaml_text.specs.Test.{by_test}
 

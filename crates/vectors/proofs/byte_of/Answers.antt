@@ -1,5 +1,5 @@
 -- Two digits, or none where one of them is none.
-use Rattle.std.proofs.Common.{None, Some, ◌≡◌, ◌∙◌, arith, sym}
+use Rattle.std.proofs.Common.{None, arith}
 use Rattle.vectors.specs.Hex.{ByteOf, hex_no_high, hex_no_low, hex_pair}
 use Rattle.vectors.proofs.byte_of.Goals as goal
 

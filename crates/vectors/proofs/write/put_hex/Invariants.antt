@@ -1,6 +1,6 @@
-use Prim.Native.Nat.{◌*◌, ◌+◌, ◌-◌, ◌≤◌}
+use Prim.Native.Nat.{◌*◌, ◌+◌}
 use mathlib.Core.Path.{◌≡◌}
-use lib.ListN.{drop, length}
+use lib.ListN.{drop}
 use Rattle.printing.specs.Written.{Writing}
 use Rattle.vectors.specs.Vector.{hex_text}
 use Rattle.vectors.proofs.write.put_hex.Given as goal
