@@ -2,10 +2,10 @@
 use std::io::IsTerminal;
 use std::rt::Clock;
 
-// The latest second; whether a second has begun since the start; whether a line stands on the terminal.
+// The latest second, where there is a clock; whether a second has begun since the start; whether a line stands on the terminal.
 #[derive(Clone, Copy)]
 struct Shown {
-    second: u64,
+    second: Option<u64>,
     begun: bool,
     line: bool,
 }
@@ -14,19 +14,16 @@ struct Shown {
 #[derive(Clone, Copy)]
 pub struct Progress(Option<Shown>);
 
-// 0 where there is no clock.
-fn this_second(rt: &HostRuntime) -> u64 {
-    match rt.since_1970() {
-        Ok(time) => time.as_secs(),
-        Err(_) => 0,
-    }
+fn this_second(rt: &HostRuntime) -> Option<u64> {
+    let time = rt.since_1970().ok()?;
+    Some(time.as_secs())
 }
 
 // To the start of the line, and nothing behind it.
 const CLEAR_LINE: &str = "\r\x1b[K";
 
 // In the first second that begins nothing is shown: the start may be right before it.
-fn next_second(rt: &HostRuntime, s: Shown, second: u64, count: u32) -> Shown {
+fn next_second(rt: &HostRuntime, s: Shown, second: Option<u64>, count: u32) -> Shown {
     if s.begun {
         let _ = eprint!(rt; "{}{} seeds so far", CLEAR_LINE, count);
     }

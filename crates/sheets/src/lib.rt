@@ -17,7 +17,7 @@ pub enum Source {
     File(File),
 }
 
-// What was read of a sheet into a room.
+// What was read of a sheet into a room. Its own type, since `ended` promises which of three cases a read comes to.
 #[derive(Clone, Copy)]
 pub enum Sheet {
     // All of it, so many bytes: a read behind the last one answered 0.

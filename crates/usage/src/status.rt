@@ -1,4 +1,4 @@
-// Exit statuses.
+// Exit statuses. They are numbers, since the system takes them so and `zero_done` of `jobs` speaks of the number 0.
 
 // Done, with at least one seed; a text that is accepted; help that was asked for.
 pub const DONE: u8 = 0;
