@@ -1,12 +1,11 @@
 -- What the code answers is what the definition's call comes to: by cases of the stream's answer, and of the effect of its token; and a token that only leads on
 -- leaves the rest of the call.
-use Rattle.std.specs.Prelude.{◌-◌, ◌<◌, suc, zero, ℕ, Ok, Result, ◌≡◌, refl, length}
+use Rattle.std.specs.Prelude.{◌-◌, ◌<◌, suc, zero, ℕ, Result, ◌≡◌, refl, length}
 use mathlib.Core.List.{List, [], ◌++◌, ◌∷◌}
 use Rattle.std.proofs.Common.{◌∙◌, subst, sym, arith, length-append}
 use Rattle.std.proofs.Math.Path.{ap}
-use Rattle.yaml_text.specs.declared.Mark.{Mark}
 use Rattle.yaml_text.specs.declared.Refusal.{Refusal}
-use Rattle.yaml_lexeme.specs.Record.{mark_in, record_of}
+use Rattle.yaml_lexeme.specs.Record.{record_of}
 use Rattle.yaml_lexeme.specs.Token.{Token, token_bytes}
 use Rattle.yaml_scan.specs.declared.Limits.{Limits}
 use Rattle.yaml_scan.specs.Scan.{standard}
@@ -30,7 +29,7 @@ use Rattle.job.specs.declared.Replied.{Replied}
 use Rattle.job.specs.Asks.{AskPromises, AsksOn, AsksPromise, ComesTo, Tells, from_answer, from_effect, lost, next_count}
 use Rattle.job.specs.CountLaws.{given_few}
 use Rattle.job.specs.JobHolds.{Counted, by_tokens, has_closed, no_more, reads}
-use Rattle.job.specs.Sees.{effect_seen, seen}
+use Rattle.job.specs.Sees.{effect_seen}
 
 -- the count behind an answer
 
@@ -89,12 +88,6 @@ ask_told text h l b h' l' b' r p m n a o e f k g x w =
     let c = call standard (length b) x in
     let s = k w.gone x w.holds in
     rw g (answer_comes text h' l' b' p m n (length b) x (counted_as e refl w.count) f w.gone r c.answer c.stream a refl s.says s.holds)
-
--- the code's parts
-
-pub from_token : {a : Result Next Refusal} {e : Effect} {k : Mark} (r b : List ℕ) (p : ShapePlace) (m : Met) (n : ℕ) → a ≡ Ok next.Token → e ≡ effect p m (seen r b) → k ≡ mark_in r 1
-    → from_effect e k n ≡ from_answer a r b p m n
-from_token r b p m n f g h = rw (f, g, h)
 
 -- the loop
 

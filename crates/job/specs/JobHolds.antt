@@ -7,8 +7,6 @@ use Rattle.yaml_stream.specs.Answers.{Comes}
 use Rattle.yaml_stream.specs.Stream.{Stream, closing, fresh}
 use Rattle.yaml_job.specs.declared.Closing.{Closing}
 use Rattle.yaml_job.specs.declared.JobAnswer.{JobAnswer}
-use Rattle.yaml_job.specs.declared.Met.{Met}
-use Rattle.yaml_job.specs.declared.ShapePlace.{ShapePlace}
 use Rattle.yaml_job.specs.Job.{Job, closed, job_call, reading}
 use Rattle.driver.specs.Held.{held_words}
 use Rattle.stream.specs.Holds.{Holds}

@@ -1,5 +1,5 @@
 -- Laws of the reader's own words: what was stored is read back, and neither the reader nor the stream changes the other's words.
-use Rattle.std.specs.Prelude.{◌+◌, ◌<◌, ◌≤◌, suc, zero, ℕ, Bool, false, not, true, List, ◌++◌, ◌≡◌, refl, eqb, drop, get_or, length, replicate, take}
+use Rattle.std.specs.Prelude.{◌+◌, ◌<◌, zero, ℕ, Bool, false, not, true, List, ◌++◌, ◌≡◌, refl, eqb, drop, get_or, length, replicate, take}
 use Rattle.std.proofs.Common.{◌∙◌, [], ap, sym, append-nil, arith, drop_of_length-le, length-append, length-drop, length-take-le, take_at, ne_eqb}
 use Rattle.std.proofs.lemmas.List.{get_or-replicate, length-replicate, replicate-append-replicate}
 use Rattle.std.proofs.Math.Seq.{length_front}
@@ -18,16 +18,6 @@ use Rattle.driver.specs.Held.{held_words, word}
 use Rattle.job.specs.declared.Reader.{Reader}
 use Rattle.job.specs.declared.Reader.TheVariants.{Ended, Reading}
 use Rattle.job.specs.Own.{count_at, done_number, field_number, field_of, flag, form_number, form_of, job_words, met_in, not_done_number, own_words, place_at, place_of, place_words, reader_in, reader_words, reading_at, reading_in, refused_in}
-
--- no arm of a match was taken: its keys are the numbers below k
-
-abbrev pub Missed : ℕ → ℕ → Type 0
-Missed zero n = Unit {0}
-Missed (suc k) n = Missed k n × (n ≡ k → ⊥)
-
-pub missed : (k n : ℕ) → Missed k n → k ≤ n
-missed zero n m = omega arith
-missed (suc k) n m = omega (arith, missed k n m.0, m.1)
 
 -- the reader of a state, by the word at its place
 

@@ -50,10 +50,6 @@ rows_end t n l h = let e : t - n ≡ 0 = omega arith in rw e
 pub rows_start : (t : ℕ) (l : List ℕ) → rows_text (t - 0) (drop (0 * record_words) l) ≡ rows_text t l
 rows_start t l = let e : t - 0 ≡ t = omega arith in rw e
 
--- the part that `&l[0..n]` lends
-pub first_part : (n : ℕ) (l : List ℕ) → take (n - 0) (drop 0 l) ≡ take n l
-first_part n l = let e : n - 0 ≡ n = omega arith in rw e
-
 pub head_written : (l m o text : List ℕ) (k r : ℕ) → Written l 0 (hex_text text) m k → Written m k (32 ∷ 61 ∷ 62 ∷ 32 ∷ []) o r → Written l 0 (head_text text) o r
 unfolding head_text
 head_written l m o text k r v w = written_then v w

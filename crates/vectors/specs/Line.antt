@@ -1,6 +1,6 @@
 -- Lines.
-use Rattle.std.specs.Prelude.{◌+◌, ◌≤◌, suc, ℕ, Bool, false, not, refl, true, List, [], ◌∷◌, ◌≡◌, eqb, drop, length}
-use Rattle.std.proofs.Common.{arith, length-drop}
+use Rattle.std.specs.Prelude.{◌≤◌, suc, ℕ, Bool, false, not, refl, true, List, [], ◌∷◌, ◌≡◌, eqb, length}
+use Rattle.std.proofs.Common.{arith}
 use Rattle.std.specs.List.{prefix_len}
 use Rattle.yaml_text.specs.Test.{by_test}
 
@@ -31,7 +31,3 @@ line_fits [] = omega arith
 line_fits (b ∷ s) =
     let i = line_fits s in
     by_test (eqb b 10) (λ e. rw (line_length, e) (omega arith)) (λ e. rw (line_length, e) (omega arith))
-
--- a line ends within the text
-pub line_within : (s : List ℕ) (at : ℕ) → at ≤ length s → at + line_length (drop at s) ≤ length s
-line_within s at h = omega (arith, line_fits (drop at s), length-drop at s)
