@@ -61,7 +61,7 @@ fn write_record(to: &mut Outlet, c: Closing) -> io::Result<()> {
 // Behind the seeds.
 fn print_record(rt: &HostRuntime, c: Closing) -> bool {
     if let Err(e) = write_record(&mut Outlet::Output(rt.stdout()), c) {
-        fail(rt, "standard output", e);
+        fail(rt, b"standard output", e);
         return false;
     }
     close_output(rt)
@@ -69,7 +69,7 @@ fn print_record(rt: &HostRuntime, c: Closing) -> bool {
 
 fn file_record(rt: &HostRuntime, c: Closing, mut begun: Begun, file: &str) -> bool {
     if let Err(e) = write_record(&mut begun.out, c) {
-        fail(rt, file, e);
+        fail(rt, file.as_bytes(), e);
         drop_file(rt, begun);
         return false;
     }

@@ -4,13 +4,16 @@
 pub mod progress;
 
 use outlets::buffered::Buffered;
+use std::fmt::{InlineText, Write};
 use std::io;
 
 // Where the lines of seeds go: 65,536 bytes may wait.
 pub type Lines<'a> = Buffered<'a, 65_536>;
 
-// A line.
+// A line, which is written whole.
 pub fn put_seed(to: &mut Lines, value: u32) -> io::Result<()> {
-    to.put_number(value as u64)?;
-    to.put(b"\n")
+    let mut line = InlineText::<11>::new();
+    // Ten digits and the break fit.
+    let _ = write!(line, "{}\n", value);
+    to.put(line.as_str().as_bytes())
 }

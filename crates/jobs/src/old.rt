@@ -57,7 +57,7 @@ fn remove(rt: &HostRuntime, file: &str) -> bool {
             if e.kind() == io::ErrorKind::NotFound {
                 return true;
             }
-            fail(rt, file, e);
+            fail(rt, file.as_bytes(), e);
             say_stays(rt, file, ": it");
             false
         }

@@ -77,7 +77,7 @@ pub(crate) fn run_text(
     match hand_over(rt, &mut begun.out, text, words, bytes) {
         Ok(c) => close_job(rt, names, c, begun, text, words, bytes),
         Err(Unhanded::Unwritten(e)) => {
-            fail(rt, names.seeds.unwrap_or("standard output"), e);
+            fail(rt, names.seeds.unwrap_or("standard output").as_bytes(), e);
             drop_file(rt, begun);
             UNWRITTEN
         }

@@ -14,7 +14,7 @@ ghost use Rattle.listing.specs.Sheet.{Lists};
 
 use arguments::count;
 use arguments::word::MOST_WORD;
-use outlets::{Outlet, fail, say};
+use outlets::{Outlet, fail};
 use printing::{put_numbers, put_records};
 use records::RECORD_WORDS;
 use scanner::{Refused, Sizes, scan_with};
@@ -80,7 +80,7 @@ fn write_listing(rt: &HostRuntime, room: &[u8], read: Sheet)
     let mut out = [0u8; 113014];
     let n = list_read(room, read, &mut out);
     if let Err(e) = Outlet::Output(rt.stdout()).put(&out[..n]) {
-        fail(rt, "standard output", e);
+        fail(rt, b"standard output", e);
     }
 }
 
@@ -101,7 +101,7 @@ fn list_input(rt: &HostRuntime) {
 
 // Lists the sheet that a file holds.
 fn list_file(rt: &HostRuntime, name: &str) {
-    if let Some(mut from) = open_file(rt, name) {
+    if let Some(mut from) = open_file(rt, name.as_bytes()) {
         list_sheet(rt, Some(name), &mut from);
     }
 }
@@ -119,18 +119,17 @@ fn list_argument(rt: &HostRuntime, i: usize) {
     let mut space = [0u8; MOST_WORD];
     match rt.arg(i, &mut space) {
         Ok(n) => list_named(rt, &space[..n]),
-        Err(e) => fail(rt, "argument", why(e)),
+        Err(e) => fail(rt, b"argument", why(e)),
     }
 }
 
-// A name that is no text can't be opened.
+// A name that is no text can't be opened, and is told so.
 fn list_named(rt: &HostRuntime, name: &[u8]) {
     match from_utf8(name) {
         Ok("-") => list_input(rt),
         Ok(file) => list_file(rt, file),
         Err(_) => {
-            say(rt, name);
-            say(rt, b": the name is not UTF-8\n");
+            open_file(rt, name);
         }
     }
 }

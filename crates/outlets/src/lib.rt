@@ -40,7 +40,16 @@ fn without_number(words: &str) -> &str {
 }
 
 // Writes a line on standard error: what failed, as the caller names it, a colon and why.
-pub fn fail(rt: &HostRuntime, what: &str, why: io::Error) {
+pub fn fail(rt: &HostRuntime, what: &[u8], why: io::Error) {
     let words = InlineText::<128>::of(why);
-    let _ = eprintln!(rt; "{}: {}", what, without_number(words.as_str()));
+    say(rt, what);
+    let _ = eprintln!(rt; ": {}", without_number(words.as_str()));
+}
+
+// The name of a file as the system is asked for it: text. No other name can be opened.
+pub fn path(name: &[u8]) -> io::Result<&str> {
+    match std::str::from_utf8(name) {
+        Ok(text) => Ok(text),
+        Err(_) => Err(io::Error::new(io::ErrorKind::InvalidInput, "the name is not UTF-8")),
+    }
 }

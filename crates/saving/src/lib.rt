@@ -60,7 +60,7 @@ pub fn begin_file(rt: &HostRuntime, file: &str) -> Option<Begun> {
             name: Some(name),
         }),
         Err(e) => {
-            fail(rt, file, e);
+            fail(rt, file.as_bytes(), e);
             None
         }
     }
@@ -115,14 +115,14 @@ pub fn finish_file(rt: &HostRuntime, begun: Begun, file: &str) -> bool {
     let Begun { out, name } = begun;
     let own = name.unwrap_or(Name::new());
     if let Err(e) = put_in_place(rt, out, own.as_str(), file) {
-        fail(rt, file, e);
+        fail(rt, file.as_bytes(), e);
         let _ = fs::remove_file(rt, own.as_str());
         return false;
     }
     match enter(rt, file) {
         Ok(()) => true,
         Err(e) => {
-            fail(rt, file, e);
+            fail(rt, file.as_bytes(), e);
             false
         }
     }
@@ -178,7 +178,7 @@ pub fn close_output(rt: &HostRuntime) -> bool {
     match settle_output(rt) {
         Ok(()) => true,
         Err(e) => {
-            fail(rt, "standard output", e);
+            fail(rt, b"standard output", e);
             false
         }
     }

@@ -5,7 +5,7 @@ ghost use Rattle.std.specs.Prelude.{◌≡◌, length};
 ghost use Rattle.std.specs.Io.{ReadsAtMost};
 ghost use Rattle.sheets.specs.Sheet.{Within, ending};
 
-use outlets::fail;
+use outlets::{fail, path};
 use std::fs::File;
 use std::io;
 use std::io::{Read, Stdin};
@@ -41,20 +41,24 @@ fn ended(got: isize, n: usize) -> Sheet
 
 // Says why something just failed with a sheet. One without a name is standard input.
 pub fn fail_sheet(rt: &HostRuntime, name: Option<&str>, why: io::Error) {
-    fail(rt, name.unwrap_or("standard input"), why);
+    fail(rt, name.unwrap_or("standard input").as_bytes(), why);
+}
+
+fn open(rt: &HostRuntime, name: &[u8]) -> io::Result<File> {
+    File::open(rt, path(name)?)
 }
 
 // What a sheet is read from: a file, or standard input where there is no name. Where there is none, standard error says why.
 pub fn open_sheet(rt: &HostRuntime, name: Option<&str>) -> Option<Source> {
     match name {
-        Some(file) => open_file(rt, file),
+        Some(file) => open_file(rt, file.as_bytes()),
         None => Some(Source::Input(rt.stdin())),
     }
 }
 
 // The file of a name. Where there is none, standard error says why.
-pub fn open_file(rt: &HostRuntime, name: &str) -> Option<Source> {
-    match File::open(rt, name) {
+pub fn open_file(rt: &HostRuntime, name: &[u8]) -> Option<Source> {
+    match open(rt, name) {
         Ok(file) => Some(Source::File(file)),
         Err(e) => {
             fail(rt, name, e);

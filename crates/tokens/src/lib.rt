@@ -89,7 +89,7 @@ pub fn list_tokens(
             Listed::Refused
         }
         Err(e) => {
-            fail(rt, "standard output", e);
+            fail(rt, b"standard output", e);
             Listed::Unwritten
         }
     }

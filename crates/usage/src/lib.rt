@@ -14,7 +14,7 @@ use saving::close_output;
 // Help, and the status that it comes to.
 pub fn give_help(rt: &HostRuntime) -> u8 {
     if let Err(e) = say_help(&mut Outlet::Output(rt.stdout())) {
-        fail(rt, "standard output", e);
+        fail(rt, b"standard output", e);
         return UNWRITTEN;
     }
     if close_output(rt) { DONE } else { UNWRITTEN }
