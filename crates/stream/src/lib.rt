@@ -151,7 +151,9 @@ fn next_scanned(
 }
 
 // The next token of a text. What is held is all zero at first; held, text, words and bytes are those of the call before.
+// Inline, so that a token that waits is given in its caller.
 #[tactic(auto, using(crate::proofs::GivesToken::scanned))]
+#[inline(always)]
 pub fn next_token(
     held: &mut [u32; HELD_WORDS],
     text: &[u8],
