@@ -32,11 +32,14 @@ pub fn load(words: &[u32], at: usize) -> [u32; RECORD_WORDS]
 }
 
 // Words from `at` on, where they are known to fit: `copy` of rooms measures the room first.
+// Word by word: the library's copy loads a record's words together before they are all stored, and each token waited for it.
 pub fn store(words: &mut [u32], at: usize, r: &[u32])
     requires { at + length r.now ≤ length words.old }
     ensures { words.new ≡ sets words.old at r.now }
 {
-    words[at..at + r.len()].copy_from_slice(r);
+    for i in 0..r.len() {
+        words[at + i] = r[i];
+    }
 }
 
 // The note on the record x, by its number; `Noted` has what it stands for.

@@ -34,7 +34,8 @@ pub fn put_record(words: &mut [u32], n: usize, t: Token)
     }
 }
 
-// Stores an empty token in slot n; the slot behind it.
+// Stores an empty token in slot n; the slot behind it. Inline, as `put_record`.
+#[inline(always)]
 fn put_empty_token(words: &mut [u32], n: usize, kind: Kind, m: Mark) -> usize
     requires { n < 2 ^ 41 }
     ensures { (result ≡ n + 1) × (words.new ≡ put_record words.old n (record_of (empty_of kind m))) }
