@@ -14,9 +14,9 @@ count=0
 # The checks with what they read. The library is there, and this script is not run again.
 fresh() {
     rm -rf "$copy"
-    mkdir -p "$copy"/crates/{replay,restream,{records,driver,stream,job,shape,tokenglade}/src}
+    mkdir -p "$copy"/crates/{replay,restream,yaml_job/specs,{records,driver,stream,job,tokenglade}/src}
     cp -r "$tree"/{bench,docs,examples,include,tests,tools} "$copy/"
-    for f in {replay,restream}/stdout {records,stream,job,tokenglade}/src/lib.rt driver/src/held.rt job/src/own.rt shape/src/number.rt; do
+    for f in {replay,restream}/stdout {records,stream,job,tokenglade}/src/lib.rt driver/src/held.rt job/src/own.rt yaml_job/specs/Job.antt; do
         cp "$tree/crates/$f" "$copy/crates/$f"
     done
     printf '#!/bin/sh\nmkdir -p "$1" && cp "%s" "$1/"\n' "$library" > "$copy/bench/native.sh"

@@ -42,7 +42,7 @@ PLACES = [
         ("examples/tokenglade.rs", r"^const CLOSING_WORDS: usize = ([0-9]+);$"),
     ]),
     ("the largest seed", [
-        ("crates/shape/src/number.rt", r"^const MOST_SEED: u64 = ([0-9_]+);$"),
+        ("crates/yaml_job/specs/Job.antt", r"^most_seed = ([0-9_]+)$"),
         ("include/tokenglade.h", r" plain numbers from 0 to ([0-9]+): digits"),
         ("include/tokenglade_names.h", r"^TOKENGLADE_REFUSAL\(72, .* from 0 to ([0-9,]+), "),
     ]),
