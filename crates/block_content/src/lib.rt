@@ -123,6 +123,7 @@ fn content_line(text: &[u8], b: Layout, c: Content, out: &mut [u8]) -> Content
 }
 
 // The content from behind the first margin on, without its end.
+// By hand: a place goes on by what stands there, with its mark, and no index is counted.
 pub fn read_content(text: &[u8], b: Layout, from: Margin, out: &mut [u8]) -> Content
     requires { Settles text.now b (first_of from) }
     ensures { Reads text.now b out.old (first_of from) out.new result (lines_of text.now b (first_of from)) }

@@ -10,6 +10,7 @@ use chars::mark::{Place, break_length};
 use utf8::byte;
 
 // The largest column reached by leading spaces up to the first line with other text.
+// By hand: a place goes on by what stands there, with its mark, and no index is counted.
 fn largest_column(text: &[u8], from: Place) -> u32
     requires { Stands text.now from }
     ensures { result ≡ largest 0 from.mark (chars (drop from.at text.now)) }
@@ -56,6 +57,7 @@ pub struct Margin {
 }
 
 // Over empty lines, and spaces up to the column.
+// By hand: a place goes on by what stands there, with its mark, and no index is counted.
 pub fn skip_margin(text: &[u8], from: Place, column: u32) -> Margin
     requires { Stands text.now from }
     ensures { Margins text.now from result (margin column 0 from.mark (chars (drop from.at text.now))) }

@@ -31,6 +31,7 @@ fn put_space(out: &mut [u8], n: usize, k: usize) -> usize
 }
 
 // The parameters, joined by one space, written from n on.
+// By hand: a place goes on by what stands there, with its mark, and no index is counted.
 fn read_parameters(text: &[u8], from: Place, n: usize, out: &mut [u8]) -> Written
     requires { Stands text.now from × (n < 2 ^ 32) }
     ensures { Writes text.now out.old out.new from n (Ok result) (got (parameters false false from.mark (chars (drop from.at text.now)))) }

@@ -179,6 +179,7 @@ fn past_spaces(text: &[u8], start: usize) -> usize
 }
 
 // The gap that begins here.
+// By hand: a place goes on by what stands there, with its mark, and no index is counted.
 pub fn skip_gap(
     text: &[u8],
     start: Place,

@@ -118,7 +118,11 @@ fn on_backslash(text: &[u8], q: Quote, w: Written, out: &mut [u8]) -> Result<Tur
         let e = p.skip_blank();
         return Ok(goes(e.skip_linebreak(k), Mode::Escaped, n));
     }
-    let e = escape(text, p, q.start)?;
+    // Taken apart, as 01 has it.
+    let r = escape(text, p, q.start);
+    let Ok(e) = r else {
+        return Err(r.unwrap_err());
+    };
     let m = put_char(out, n, e.code);
     Ok(goes(e.next, Mode::Chars, m))
 }

@@ -21,6 +21,7 @@ use utf8::{byte, char_at};
 use yaml_text::{Decoded, Mark, Refusal};
 
 // The place behind the longest run of characters of a class.
+// By hand: a place goes on by what stands there, with its mark, and no index is counted.
 pub fn run_of<C: Class>(text: &[u8], start: Place) -> Place
     requires { Stands text.now start }
     ensures { Spans text.now start result (run_of C.test start.mark (chars (drop start.at text.now))) }
@@ -68,7 +69,11 @@ fn put_one(
             place,
         });
     }
-    let e = percent(text, p, start)?;
+    // Taken apart, as 01 has it.
+    let r = percent(text, p, start);
+    let Ok(e) = r else {
+        return Err(r.unwrap_err());
+    };
     let count = put_char(out, n, e.code);
     Ok(Written {
         count,
@@ -77,6 +82,7 @@ fn put_one(
 }
 
 // The longest run of characters of a class, percent escapes decoded, written from n on. A refusal leaves zeros from n on.
+// By hand: a place goes on by what stands there, with its mark, and no index is counted.
 pub fn uri_run<C: AsciiClass>(
     text: &[u8],
     from: Place,

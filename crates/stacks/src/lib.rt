@@ -1,4 +1,4 @@
-// The stacks that a step is lent, one slice: indent entries (K4, K6), then frames: candidates with their flow levels (K2).
+// The stacks that a step is lent, one array: indent entries (K4, K6), then frames: candidates with their flow levels (K2).
 #![tactic(auto)]
 
 pub mod frame;

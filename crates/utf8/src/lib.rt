@@ -14,16 +14,17 @@ pub fn byte(s: &[u8], at: usize) -> u8
     s.get(at).copied().unwrap_or(0)
 }
 
-// How many bytes the character of a lead byte takes: none, where it leads none. A count as in the definition, since a reader that stands at a
-// character moves on by it.
+// How many bytes the character of a lead byte takes, by its leading one bits, as 01 has it; 0: it leads none. A count as in the definition, since a
+// reader that stands at a character moves on by it.
 pub fn lead_len(b: u8) -> u32
     ensures { result ≡ len_of b }
 {
-    match b {
-        0..=0x7f => 1,
-        0xc0..=0xdf => 2,
-        0xe0..=0xef => 3,
-        0xf0..=0xf7 => 4,
+    let n = u8::leading_zeros(!b);
+    match n {
+        0 => 1,
+        2 => 2,
+        3 => 3,
+        4 => 4,
         _ => 0,
     }
 }

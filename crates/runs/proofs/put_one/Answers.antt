@@ -1,6 +1,5 @@
 -- The three answers to a character: itself, the one that its escape is, a refusal.
 use Rattle.std.proofs.Common.{refl}
-use Rattle.std.proofs.lemmas.Result.{err_from_is_err_and}
 use Rattle.yaml_text.specs.Char.{'%'}
 use Rattle.chars.specs.Bytes.{CharAt}
 use Rattle.runs.proofs.Writing.{put_escape, put_plain, put_refused}
@@ -16,11 +15,9 @@ returns-then-c-ne37 c =
     let s = c.requires in
     put_plain _ s.0 s.1 s.2 c.if-c-ne37.true c.put.ensures c.skip_blank-place.ensures
 
-pub returns-in_err-e : goal.returns-in_err-e
-returns-in_err-e c =
-    let p = err_from_is_err_and c.from_residual.result c.from_residual.ensures.1 in
-    rw (p.1, p.2) (put_refused c.args.start c.requires.0 (sign (goal.at.returns-in_err-e c).Else-c-ne37) c.in_err-e.ensures refl refl)
+pub returns-in_default : goal.returns-in_default
+returns-in_default c = put_refused c.args.start c.requires.0 (sign (goal.at.returns-in_default c).Else-c-ne37) (rw c.unwrap_err.ensures at c.percent-r.ensures) refl refl
 
 pub returns : goal.returns
 returns c =
-    put_escape c.args.start c.requires.0 (sign (goal.at.returns c).Else-c-ne37) c.in_ok-e.ensures refl c.put_char-count.ensures.0 c.put_char-count.ensures.1
+    put_escape c.args.start c.requires.0 (sign (goal.at.returns c).Else-c-ne37) c.in-Ok.ensures refl c.put_char-count.ensures.0 c.put_char-count.ensures.1

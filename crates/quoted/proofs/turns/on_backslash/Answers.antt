@@ -2,7 +2,6 @@
 use mathlib.Core.Path.{◌∙◌, ap, refl}
 use native.Mathlib.Omega.{arith}
 use Rattle.std.proofs.Common.{Ok}
-use Rattle.std.proofs.lemmas.Result.{err_from_is_err_and}
 use Rattle.chars.specs.Lines.{break_few}
 use Rattle.chars.specs.Places.{small, stands_along}
 use Rattle.quoted.proofs.Backslash.{joined_turns, one_turns, refused_turns}
@@ -17,12 +16,11 @@ returns-then-k-gt0 c =
     joined_turns _ c.requires.0 c.requires.1 c.requires.2 _ c.break_length-k.ensures c.if-k-gt0.true
     (ap Ok (c.goes.ensures ∙ rw (c.skip_linebreak.ensures, c.skip_blank-e.ensures)))
 
-pub returns-in_err-e : goal.returns-in_err-e
-returns-in_err-e c =
-    let p = err_from_is_err_and c.from_residual.result c.from_residual.ensures.1 in
-    rw (p.1, p.2) (refused_turns _ c.requires.0 c.requires.1 c.requires.2 (rw c.break_length-k.ensures at c.if-k-gt0.false) _ c.in_err-e.ensures refl)
+pub returns-in_default : goal.returns-in_default
+returns-in_default c =
+    refused_turns _ c.requires.0 c.requires.1 c.requires.2 (rw c.break_length-k.ensures at c.if-k-gt0.false) _ (rw c.unwrap_err.ensures at c.escape-r.ensures) refl
 
 pub returns : goal.returns
 returns c =
-    one_turns _ c.requires.0 c.requires.1 c.requires.2 (rw c.break_length-k.ensures at c.if-k-gt0.false) c.in_ok-e.ensures c.put_char-m.ensures.0 c.put_char-m.ensures.1
+    one_turns _ c.requires.0 c.requires.1 c.requires.2 (rw c.break_length-k.ensures at c.if-k-gt0.false) c.in-Ok.ensures c.put_char-m.ensures.0 c.put_char-m.ensures.1
     (ap Ok c.goes-2.ensures)
