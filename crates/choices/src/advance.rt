@@ -1,7 +1,7 @@
 // After gaps, lapse and unrolling to the column.
-ghost use Rattle.std.specs.Prelude.{◌^◌, ◌<◌, ◌≤◌};
+ghost use Rattle.std.specs.Prelude.{◌≡◌, ◌^◌, ◌<◌, ◌≤◌, length};
 ghost use Rattle.stacks.specs.Indent.{Low};
-ghost use Rattle.stacks.specs.Stack.{entry_words};
+ghost use Rattle.stacks.specs.Stack.{entry_words, stack_words};
 ghost use Rattle.states.specs.Fetch.{Ready};
 ghost use Rattle.choices.specs.Advance.{Advances, UnrollsHere};
 
@@ -35,14 +35,14 @@ fn unrolled(s: State, stacks: &[u32; STACK_WORDS]) -> Unrolled
 }
 
 // The gap, then the lapse, then the unrolling.
-pub fn to_next_token(
+fn to_token(
     limits: Limits,
     text: &[u8],
     s: State,
     stacks: &mut [u32; STACK_WORDS],
 ) -> Result<Advanced, Refusal>
     requires { Ready limits text.now stacks.old s }
-    ensures { Advances limits text.now stacks.old stacks.new s result }
+    ensures { Advances limits text.now stacks.old stacks.new s result × (length stacks.new ≡ stack_words) }
 {
     let g = skip_gap(
         text,
@@ -58,4 +58,18 @@ pub fn to_next_token(
         state: t.with_indents(u.indents),
         ended: u.ended,
     })
+}
+
+// The same where more words are lent than the stacks: those behind them stay.
+pub fn to_next_token(
+    limits: Limits,
+    text: &[u8],
+    s: State,
+    stacks: &mut [u32],
+) -> Result<Advanced, Refusal>
+    requires { Ready limits text.now stacks.old s }
+    ensures { Advances limits text.now stacks.old stacks.new s result }
+{
+    let first = stacks.first_chunk_mut::<STACK_WORDS>().unwrap();
+    to_token(limits, text, s, first)
 }

@@ -120,7 +120,7 @@ module _ (l : List ℕ) (n : ℕ) (h : n + 5 ≤ length l) where
   key_back (Possible true c m) g = key_five 2 c m g
   key_back (Possible false c m) g = key_five 1 c m g
 
-key_few : (k : Candidate) → length (key_words k) ≤ 5
+pub key_few : (k : Candidate) → length (key_words k) ≤ 5
 unfolding key_words
 key_few Absent = omega arith
 key_few (Possible r n m) = omega arith
@@ -136,19 +136,19 @@ required_word a n =
 
 -- frames of the same words are the same
 
-key_same : (a e : List ℕ) (n : ℕ) → ((j : ℕ) → j < 5 → get_or e (n + j) 0 ≡ get_or a (n + j) 0) → key_at e n ≡ key_at a n
+pub key_same : (a e : List ℕ) (n : ℕ) → ((j : ℕ) → j < 5 → get_or e (n + j) 0 ≡ get_or a (n + j) 0) → key_at e n ≡ key_at a n
 unfolding key_at
 key_same a e n s =
     let z : n + 0 ≡ n = omega arith in
     let f : get_or e n 0 ≡ get_or a n 0 = rw z at (s 0 (omega arith)) in
     rw (f, s 1 (omega arith), s 2 (omega arith), s 3 (omega arith), s 4 (omega arith))
 
-keys_same : (a e : List ℕ) (d : ℕ) → ((n : ℕ) → n < d → key_of e n ≡ key_of a n) → frame_keys e d ≡ frame_keys a d
+pub keys_same : (a e : List ℕ) (d : ℕ) → ((n : ℕ) → n < d → key_of e n ≡ key_of a n) → frame_keys e d ≡ frame_keys a d
 unfolding frame_keys
 keys_same a e zero s = refl
 keys_same a e (suc d) s = rw (s d (omega arith), keys_same a e d (λ n h. s n (omega arith)))
 
-levels_same : (a e : List ℕ) (d : ℕ) → ((n : ℕ) → n ≤ d → level_of e n ≡ level_of a n) → frame_levels e d ≡ frame_levels a d
+pub levels_same : (a e : List ℕ) (d : ℕ) → ((n : ℕ) → n ≤ d → level_of e n ≡ level_of a n) → frame_levels e d ≡ frame_levels a d
 unfolding frame_levels
 levels_same a e zero s = refl
 levels_same a e (suc d) s = rw (s (suc d) (omega arith), levels_same a e d (λ n h. s n (omega arith)))

@@ -3,3 +3,4 @@ pub mod Drops
 pub mod Rolls
 pub mod Frames
 pub mod Levels
+pub mod Longer

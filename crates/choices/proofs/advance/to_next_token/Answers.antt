@@ -1,23 +1,16 @@
--- The gap is refused before a word is written, and a refused lapse writes none; else the definition's state is the one behind the gap, lapsed and unrolled.
-use Rattle.std.proofs.Common.{arith}
-use Rattle.std.proofs.lemmas.Result.{err_from_is_err_and}
-use Rattle.choices.proofs.NextToken.{advances, gap_refused, lapse_refused}
+-- The stacks stand first in what is lent, and what the way makes of them is what it makes of all.
+use Rattle.states.proofs.Longer.{ready_first}
+use Rattle.choices.proofs.Longer.{advances_whole}
 use Rattle.choices.proofs.advance.to_next_token.Goals as goal
 
-pub returns-in_err-g : goal.returns-in_err-g
-returns-in_err-g c =
-    let a = c.args in let p = err_from_is_err_and c.from_residual.result c.from_residual.ensures.1 in
-    rw (p.1, p.2) (gap_refused a.text.now a.stacks.now a.s c.in_err-g.ensures)
-
-pub returns-in_err-lapse_key : goal.returns-in_err-lapse_key
-returns-in_err-lapse_key c =
-    let a = c.args in
-    let p = err_from_is_err_and c.from_residual-in_err-lapse_key.result c.from_residual-in_err-lapse_key.ensures.1 in
-    rw (p.1, p.2) (lapse_refused a.text.now a.stacks.now a.s c.in_ok-g.ensures (rw c.moved-t.ensures at c.in_err-lapse_key.ensures))
+pub to_token-requires : goal.to_token-requires
+to_token-requires c =
+    let f = rw c.unwrap-first.ensures at c.first_chunk_mut.ensures.cases in
+    rw f.same (ready_first c.args.stacks.now c.requires)
 
 pub returns : goal.returns
 returns c =
     let a = c.args in
-    rw (c.with_indents.ensures, c.moved-t.ensures)
-    (advances a.text.now a.stacks.now a.s c.in_ok-g.ensures c.requires (omega (arith, c.lapse_key.array_long)) (rw c.moved-t.ensures at c.in_ok-lapse_key.ensures)
-    (rw c.moved-t.ensures at c.unrolled-u.ensures))
+    let f = rw c.unwrap-first.ensures at c.first_chunk_mut.ensures.cases in
+    let w = rw f.same at c.to_token.ensures in
+    advances_whole a.stacks.now c.to_token.new.stacks c.to_token.result c.requires w.1 w.0
