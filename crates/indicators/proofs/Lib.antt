@@ -3,3 +3,4 @@ pub mod One
 pub mod Roll
 pub mod Block
 pub mod Value
+pub mod Longer

@@ -7,7 +7,7 @@ use Rattle.yaml_scan.specs.declared.Choice.TheVariants.{AtAnchor, AtBlock, AtByt
 use Rattle.states.specs.Refused.{has_text}
 use Rattle.steps.specs.Step.{is_brief}
 
--- of `fetch_other`: the lexemes that hold text
+-- of `match_other`: the lexemes that hold text
 pub only_texts : (c : Choice) → is_brief c ≡ false
     → (c ≡ AtEnd → ⊥)
     → (c ≡ AtByteOrderMark → ⊥)
@@ -60,7 +60,7 @@ only_tag (AtMarker starts) b t k1 k2 k3 k4 = true_false (sym t)
 only_tag AtQuestion b t k1 k2 k3 k4 = true_false (sym t)
 only_tag AtColon b t k1 k2 k3 k4 = true_false (sym t)
 
--- of `fetch_brief`: a comma
+-- of `match_brief`: a comma
 pub only_comma : (c : Choice) → is_brief c ≡ true
     → (c ≡ AtPlain → ⊥)
     → (c ≡ AtDash → ⊥)

@@ -1,2 +1,3 @@
 pub mod Arms
 pub mod Last
+pub mod Longer

@@ -2,7 +2,8 @@
 // the choice would hand out in its place could not be handed out.
 #![tactic(auto)]
 
-ghost use Rattle.std.specs.Prelude.{◌≡◌, false, true};
+ghost use Rattle.std.specs.Prelude.{◌≡◌, false, length, true};
+ghost use Rattle.stacks.specs.Stack.{stack_words};
 ghost use Rattle.states.specs.Brief.{brief_fetched};
 ghost use Rattle.states.specs.Refused.{has_text};
 ghost use Rattle.steps.specs.Step.{Chosen, Steps, is_brief};
@@ -46,7 +47,7 @@ fn fetch_content(
 }
 
 // All lexemes that are not brief, and the refusals 42 and 43.
-pub fn fetch_other(
+fn match_other(
     limits: Limits,
     text: &[u8],
     c: Choice,
@@ -56,7 +57,7 @@ pub fn fetch_other(
     bytes: &mut [u8],
 ) -> Result<Fetched, Refusal>
     requires { Chosen limits text.now stacks.old n.used s c × (is_brief c ≡ false) }
-    ensures { Steps limits text.now stacks.old stacks.new bytes.old bytes.new n s c result }
+    ensures { Steps limits text.now stacks.old stacks.new bytes.old bytes.new n s c result × (length stacks.new ≡ stack_words) }
 {
     match c {
         Choice::AtEnd => fetch_stream_end(limits, text, s, n, stacks),
@@ -68,6 +69,23 @@ pub fn fetch_other(
         Choice::AtColon => fetch_value(limits, text, s, stacks),
         _ => fetch_content(limits, text, c, s, n, stacks, bytes),
     }
+}
+
+// The same where more words are lent than the stacks: those behind them stay.
+pub fn fetch_other(
+    limits: Limits,
+    text: &[u8],
+    c: Choice,
+    s: State,
+    n: Counts,
+    stacks: &mut [u32],
+    bytes: &mut [u8],
+) -> Result<Fetched, Refusal>
+    requires { Chosen limits text.now stacks.old n.used s c × (is_brief c ≡ false) }
+    ensures { Steps limits text.now stacks.old stacks.new bytes.old bytes.new n s c result }
+{
+    let first = stacks.first_chunk_mut::<STACK_WORDS>().unwrap();
+    match_other(limits, text, c, s, n, first, bytes)
 }
 
 // Plain scalars, '-', brackets and ',' are brief: they say one token, behind an empty one or not.
@@ -85,7 +103,7 @@ pub fn is_brief(c: Choice) -> bool
 }
 
 // A lexeme that is brief.
-pub fn fetch_brief(
+fn match_brief(
     limits: Limits,
     text: &[u8],
     c: Choice,
@@ -95,7 +113,7 @@ pub fn fetch_brief(
     bytes: &mut [u8],
 ) -> Result<Brief, Refusal>
     requires { Chosen limits text.now stacks.old n.used s c × (is_brief c ≡ true) }
-    ensures { Steps limits text.now stacks.old stacks.new bytes.old bytes.new n s c (brief_fetched result) }
+    ensures { Steps limits text.now stacks.old stacks.new bytes.old bytes.new n s c (brief_fetched result) × (length stacks.new ≡ stack_words) }
 {
     match c {
         Choice::AtPlain => Ok(fetch_plain_scalar(limits, text, s, n, stacks, bytes)),
@@ -106,4 +124,21 @@ pub fn fetch_brief(
         Choice::Closes { sequence } => fetch_flow_collection_end(limits, text, sequence, s, stacks),
         _ => fetch_flow_entry(limits, text, s, stacks),
     }
+}
+
+// The same where more words are lent than the stacks: those behind them stay.
+pub fn fetch_brief(
+    limits: Limits,
+    text: &[u8],
+    c: Choice,
+    s: State,
+    n: Counts,
+    stacks: &mut [u32],
+    bytes: &mut [u8],
+) -> Result<Brief, Refusal>
+    requires { Chosen limits text.now stacks.old n.used s c × (is_brief c ≡ true) }
+    ensures { Steps limits text.now stacks.old stacks.new bytes.old bytes.new n s c (brief_fetched result) }
+{
+    let first = stacks.first_chunk_mut::<STACK_WORDS>().unwrap();
+    match_brief(limits, text, c, s, n, first, bytes)
 }
