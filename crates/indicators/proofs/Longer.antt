@@ -13,9 +13,9 @@ use Rattle.stacks.specs.Frame.{key_of, level_of, put_level}
 use Rattle.stacks.specs.Indent.{indents_seen}
 use Rattle.stacks.specs.Stack.{entry_words}
 use Rattle.stacks.proofs.Entries.{entries_length}
-use Rattle.stacks.proofs.Longer.{Longer, key_longer, level_longer, pick_longer, put_key_longer, put_level_longer, rolled_longer}
+use Rattle.stacks.proofs.Longer.{Longer, entries_longer, key_longer, level_longer, pick_longer, put_key_longer, put_level_longer, rolled_longer}
 use Rattle.states.specs.declared.State.{State}
-use Rattle.states.proofs.Longer.{indents_longer, removed_longer}
+use Rattle.states.proofs.Longer.{removed_longer}
 use Rattle.indicators.specs.Words.{colon_of, colon_words, dash_words, pair_of, question_words, questioned_of, roll_words, words_by}
 
 module _ {x a b : List ℕ} (h : Longer x a b) (limits : Limits) (s : State) (flow : s.flow_level ≤ 255) (deep : s.indents.depth ≤ entry_words) where
@@ -23,7 +23,7 @@ module _ {x a b : List ℕ} (h : Longer x a b) (limits : Limits) (s : State) (fl
   unfolding roll_words
   roll_longer m =
       let n = entries_length b s.indents.depth in
-      rw (indents_longer h s deep)
+      rw ((entries_longer h).entries s.indents.depth deep)
       (pick_longer (ltb 0 s.flow_level) h (rolled_longer h limits.entries (edge_of m) (indents_seen b s.indents) (omega arith)))
 
   pub dash_longer : Longer x (dash_words limits a s) (dash_words limits b s)

@@ -6,7 +6,9 @@ use mathlib.Core.List.{List, ◌++◌}
 use mathlib.Core.Path.{◌∙◌, ◌≡◌, ap, refl, sym}
 use native.Mathlib.Omega.{arith}
 use lib.ListN.{drop, length, take}
-use borrow.Author.Cases.{cases_lt}
+use Rattle.std.proofs.Common.{inl, inr}
+use Rattle.std.proofs.lemmas.Bool.{cases_lt}
+use Rattle.yaml_text.specs.declared.Mark.{Mark}
 use Rattle.yaml_text.specs.declared.Refusal.{Refusal}
 use Rattle.yaml_text.specs.Refusal.{Read, got, refused}
 use Rattle.yaml_scan.specs.declared.Choice.{Choice}
@@ -58,37 +60,37 @@ module _ {x a b : List ℕ} (h : Longer x a b) (limits : Limits) (count : ℕ) (
 not_refused : {P : Type 0} {limits : Limits} {text a e w : List ℕ} {n : Counts} {s : State} {d : Read News} {k : ℕ} {m : Mark} (f : Fetched)
     → Fetches limits text a e w n s d (Ok f) → d ≡ refused k m → P
 unfolding fetched_seen laid_news
-not_refused (Goes v t) f q = refused_got (sym (f.same ∙ rw q))
-not_refused (Ends v) f q = refused_got (sym (f.same ∙ rw q))
+not_refused (Goes v t) f q = refused_got (sym (rw q at f.same))
+not_refused (Ends v) f q = refused_got (sym (rw q at f.same))
+
+-- what is chosen with all the words is so with the first
+pub chosen_first : {limits : Limits} {text : List ℕ} (a : List ℕ) {used : ℕ} {s : State} {c : Choice} → Chosen limits text a used s c → Chosen limits text (take stack_words a) used s c
+chosen_first a y = record { ready = ready_first a y.ready; room = y.room; says = y.says }
 
 -- from the words a, the first of which became e
-module _ {limits : Limits} {text : List ℕ} (a e : List ℕ) {before after : List ℕ} {n : Counts} {s : State} (c : Choice) (y : Chosen limits text a n.used s c) (long : length e ≡ stack_words) where
-  abbrev b : List ℕ
-  b = take stack_words a
-
-  -- what is chosen with all of them is so with these
-  pub chosen_first : Chosen limits text b n.used s c
-  chosen_first = record { ready = ready_first a y.ready; room = y.room; says = y.says }
-
-  has_room : (f : Fetched) → Steps limits text b e before after n s c (Ok f) → HasRoom c s
+module _ {limits : Limits} {text : List ℕ} (a e : List ℕ) (n : Counts) {s : State} (c : Choice) (y : Chosen limits text a n.used s c) where
+  has_room : {before after : List ℕ} (f : Fetched) → Steps limits text (take stack_words a) e before after n s c (Ok f) → HasRoom c s
   unfolding fetch
   has_room f w sequence q =
       elim (cases_lt s.flow_level limits.levels) [
         | inl l ↦ omega (arith, y.ready.lent.levels_most)
         | inr l ↦
+            let b = take stack_words a in
             let r = start_no_room limits sequence text b n.count s l in
-            not_refused f w.fetches (rw (← y.says b n.count, q) r.1)
+            let e : fetch_next limits (state_of text b n.count s) ≡ refused r.0 s.place.mark = rw (← y.says b n.count, q) r.1 in
+            not_refused f w.fetches e
       ]
 
-  words_longer : (r : Result Fetched Refusal) → Steps limits text b e before after n s c r
-      → words_left a (choice_words limits c a n.count s) r ≡ words_left b (choice_words limits c b n.count s) r ++ drop stack_words a
+  words_longer : {before after : List ℕ} (r : Result Fetched Refusal) → Steps limits text (take stack_words a) e before after n s c r
+      → words_left a (choice_words limits c a n.count s) r ≡ words_left (take stack_words a) (choice_words limits c (take stack_words a) n.count s) r ++ drop stack_words a
   words_longer (Ok f) w =
       let k = ready_key y.ready in
       (choice_longer (first_longer a y.ready) limits n.count s k.0 k.1 c (has_room f w)).is
   words_longer (Err f) w = (first_longer a y.ready).is
 
-  pub steps_longer : (r : Result Fetched Refusal) → Steps limits text b e before after n s c r → Steps limits text a (e ++ drop stack_words a) before after n s c r
-  steps_longer r w =
+  pub steps_longer : {before after : List ℕ} (r : Result Fetched Refusal) → length e ≡ stack_words → Steps limits text (take stack_words a) e before after n s c r
+      → Steps limits text a (e ++ drop stack_words a) before after n s c r
+  steps_longer r long w =
       let k = ready_key y.ready in
       let h = first_longer a y.ready in
       rw (state_longer h s k.0 k.1 text n.count) (fetches_longer r h (ready_first a y.ready) long w (words_longer r w))

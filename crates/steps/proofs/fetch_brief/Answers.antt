@@ -7,11 +7,11 @@ pub match_brief-requires : goal.match_brief-requires
 match_brief-requires c =
     let a = c.args in
     let f = rw c.unwrap-first.ensures at c.first_chunk_mut.ensures.cases in
-    rw f.same (chosen_first a.stacks.now a.c c.requires.0, c.requires.1)
+    rw f.same (chosen_first a.stacks.now c.requires.0, c.requires.1)
 
 pub returns : goal.returns
 returns c =
     let a = c.args in
     let f = rw c.unwrap-first.ensures at c.first_chunk_mut.ensures.cases in
     let w = rw f.same at c.match_brief.ensures in
-    steps_longer a.stacks.now c.match_brief.new.stacks a.c c.requires.0 w.1 (brief_fetched c.match_brief.result) w.0
+    steps_longer a.stacks.now c.match_brief.new.stacks a.n a.c c.requires.0 (brief_fetched c.match_brief.result) w.1 w.0

@@ -6,11 +6,11 @@ pub match_other-requires : goal.match_other-requires
 match_other-requires c =
     let a = c.args in
     let f = rw c.unwrap-first.ensures at c.first_chunk_mut.ensures.cases in
-    rw f.same (chosen_first a.stacks.now a.c c.requires.0, c.requires.1)
+    rw f.same (chosen_first a.stacks.now c.requires.0, c.requires.1)
 
 pub returns : goal.returns
 returns c =
     let a = c.args in
     let f = rw c.unwrap-first.ensures at c.first_chunk_mut.ensures.cases in
     let w = rw f.same at c.match_other.ensures in
-    steps_longer a.stacks.now c.match_other.new.stacks a.c c.requires.0 w.1 c.match_other.result w.0
+    steps_longer a.stacks.now c.match_other.new.stacks a.n a.c c.requires.0 c.match_other.result w.1 w.0
