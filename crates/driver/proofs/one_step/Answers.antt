@@ -1,4 +1,5 @@
 -- The step is the way to the next token and that token; on the way it may be refused, and then nothing was stored.
+use mathlib.Core.Path.{◌∙◌}
 use Rattle.std.proofs.lemmas.Result.{err_from_is_err_and}
 use Rattle.storing.specs.Arrive.{arrives_few, arrives_given, left_arrives, step_arrives, step_stops}
 use Rattle.driver.proofs.Driving.{refused_done}
@@ -14,7 +15,7 @@ pub returns-in_err-a : goal.returns-in_err-a
 returns-in_err-a c =
     let a = c.args in
     let p = err_from_is_err_and c.from_residual.result c.from_residual.ensures.1 in
-    rw (p.1, p.2) (refused_done a.words.now c.to_next_token.array_long (step_stops a.limits a.n a.bytes.now c.in_err-a.ensures))
+    rw (p.1, p.2) (refused_done a.words.now (c.to_next_token.auto.stacks ∙ c.told-stacks) (step_stops a.limits a.n a.bytes.now c.in_err-a.ensures))
 
 pub returns : goal.returns
 returns c =

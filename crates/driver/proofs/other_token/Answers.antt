@@ -1,5 +1,5 @@
 -- Whatever else is fetched says one event too: it is stored and counted as the definition has it, and at the end of the text the run is over.
-use mathlib.Core.Path.{ap}
+use mathlib.Core.Path.{◌∙◌, ap}
 use Rattle.std.specs.Prelude.{Ok}
 use Rattle.std.proofs.lemmas.Result.{err_from_is_err_and}
 use Rattle.storing.specs.Token.{FetchedEvent, at_end, fetched_as, going}
@@ -14,7 +14,7 @@ pub returns-in_err-r : goal.returns-in_err-r
 returns-in_err-r c =
     let a = c.args in
     let p = err_from_is_err_and c.from_residual.result c.from_residual.ensures.1 in
-    rw (p.1, p.2) (taken_refused c.requires.0 a.ended c.requires.2 c.ending-k.ensures a.c a.words.now c.fetch_other.array_long c.requires.3 c.in_err-r.ensures)
+    rw (p.1, p.2) (taken_refused c.requires.0 a.ended c.requires.2 c.ending-k.ensures a.c a.words.now (c.fetch_other.auto.stacks ∙ c.told-stacks) c.requires.3 c.in_err-r.ensures)
 
 pub counting-counts-requires : goal.counting-counts-requires
 counting-counts-requires c =
@@ -27,7 +27,7 @@ returns-in-Goes-r c =
     let a = c.args in
     elim c.match-r.branch [
       | in-Goes w ↦
-          taken_goes c.requires.0 a.ended c.requires.2 c.ending-k.ensures a.c a.words.now c.in_ok-r.ensures c.fetch_other.array_long c.put_news.ensures c.counting-counts.ensures
+          taken_goes c.requires.0 a.ended c.requires.2 c.ending-k.ensures a.c a.words.now c.in_ok-r.ensures (c.fetch_other.auto.stacks ∙ c.told-stacks) c.put_news.ensures c.counting-counts.ensures
           (ap Ok (it_goes w.in-Goes.is w.e-is w.r-is c.in-Goes-r.is)) c.told-stacks
       | in-Ends w ↦ absurd (cc)
     ]
@@ -37,6 +37,6 @@ returns-in-Ends-r c =
     let a = c.args in
     elim c.match-r.branch [
       | in-Goes w ↦ absurd (cc)
-      | in-Ends w ↦ taken_ends c.requires.0 a.ended c.requires.2 c.ending-k.ensures a.c a.words.now c.in_ok-r.ensures c.fetch_other.array_long c.put_news.ensures c.counting-counts.ensures
+      | in-Ends w ↦ taken_ends c.requires.0 a.ended c.requires.2 c.ending-k.ensures a.c a.words.now c.in_ok-r.ensures (c.fetch_other.auto.stacks ∙ c.told-stacks) c.put_news.ensures c.counting-counts.ensures
           (ap Ok (it_ends w.in-Ends.is w.e-is))
     ]
