@@ -1,5 +1,5 @@
 -- The way to the next token over more words than the stacks: what it makes of the first is what it makes of all, and the rest stays.
-use Prim.Native.Nat.{◌≤◌, ℕ}
+use Prim.Native.Nat.{ℕ}
 use Rattle.std.specs.Prelude.{Result, Ok, Err}
 use mathlib.Core.List.{List, ◌++◌}
 use mathlib.Core.Path.{◌∙◌, ◌≡◌, ap, sym}

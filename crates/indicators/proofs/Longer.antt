@@ -1,7 +1,6 @@
 -- Words with more behind them than the stacks: what '-', '?' and ':' store leaves the rest.
 use Prim.Native.Nat.{◌≤◌, ℕ}
 use mathlib.Core.List.{List}
-use mathlib.Core.Path.{◌≡◌}
 use native.Mathlib.Omega.{arith}
 use lib.Dec.{ltb}
 use Rattle.yaml_text.specs.declared.Mark.{Mark}

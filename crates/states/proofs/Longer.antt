@@ -27,7 +27,7 @@ use Rattle.states.specs.Answer.{ready_key}
 use Rattle.states.specs.Fetch.{After, FetchesText, Ready, fetched_seen, words_left}
 use Rattle.states.specs.Key.{lapsed_words, lapses_at, removed_words, saved_words}
 use Rattle.states.specs.Seen.{entries_seen}
-use Rattle.states.specs.State.{Lent, required_of, state_of}
+use Rattle.states.specs.State.{required_of, state_of}
 
 -- the stacks are the first of the words that are lent
 

@@ -3,14 +3,14 @@ use Prim.Native.Nat.{◌<◌, ◌≤◌, ℕ}
 use Rattle.std.specs.Prelude.{Result, Ok, Err}
 use mathlib.Core.Bool.{Bool}
 use mathlib.Core.List.{List, ◌++◌}
-use mathlib.Core.Path.{◌∙◌, ◌≡◌, ap, refl, sym}
+use mathlib.Core.Path.{◌≡◌, refl, sym}
 use native.Mathlib.Omega.{arith}
 use lib.ListN.{drop, length, take}
 use Rattle.std.proofs.Common.{inl, inr}
 use Rattle.std.proofs.lemmas.Bool.{cases_lt}
 use Rattle.yaml_text.specs.declared.Mark.{Mark}
 use Rattle.yaml_text.specs.declared.Refusal.{Refusal}
-use Rattle.yaml_text.specs.Refusal.{Read, got, refused}
+use Rattle.yaml_text.specs.Refusal.{Read, refused}
 use Rattle.yaml_scan.specs.declared.Choice.{Choice}
 use Rattle.yaml_scan.specs.declared.Choice.TheVariants.{AtAnchor, AtBlock, AtByteOrderMark, AtColon, AtComma, AtDash, AtDirective, AtEnd, AtMarker, AtPlain, AtQuestion, AtQuoted, AtTag, BelowIndent, Closes, Opens, Stray}
 use Rattle.yaml_scan.specs.declared.Limits.{Limits}
@@ -20,12 +20,12 @@ use Rattle.stacks.specs.Stack.{entry_words, stack_words}
 use Rattle.stacks.proofs.Longer.{Longer}
 use Rattle.stacks.proofs.Rolls.{refused_got}
 use Rattle.events.specs.declared.Counts.{Counts}
-use Rattle.events.specs.Event.{LaidNews, laid_news}
+use Rattle.events.specs.Event.{laid_news}
 use Rattle.states.specs.declared.Fetched.{Fetched}
 use Rattle.states.specs.declared.Fetched.TheVariants.{Ends, Goes}
 use Rattle.states.specs.declared.State.{State}
 use Rattle.states.specs.Answer.{ready_key}
-use Rattle.states.specs.Fetch.{Fetches, Ready, fetched_seen, words_left}
+use Rattle.states.specs.Fetch.{Fetches, fetched_seen, words_left}
 use Rattle.states.specs.State.{state_of}
 use Rattle.states.proofs.Longer.{fetches_longer, first_longer, ready_first, removed_longer, saved_longer, state_longer}
 use Rattle.brackets.proofs.Longer.{bracket_longer, comma_longer, start_no_room}

@@ -18,6 +18,8 @@ returns-in_err-lapse_key c =
 pub returns : goal.returns
 returns c =
     let a = c.args in
-    rw (c.with_indents.ensures, c.moved-t.ensures)
-    (advances a.text.now a.stacks.now a.s c.in_ok-g.ensures c.requires (omega (arith, c.lapse_key.array_long)) (rw c.moved-t.ensures at c.in_ok-lapse_key.ensures)
-    (rw c.moved-t.ensures at c.unrolled-u.ensures), c.lapse_key.array_long)
+    rw (c.with_indents.ensures, c.moved-t.ensures) (
+      advances a.text.now a.stacks.now a.s c.in_ok-g.ensures c.requires (omega (arith, c.lapse_key.array_long)) (rw c.moved-t.ensures at c.in_ok-lapse_key.ensures)
+          (rw c.moved-t.ensures at c.unrolled-u.ensures),
+      c.lapse_key.array_long,
+    )
