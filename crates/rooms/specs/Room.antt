@@ -1,6 +1,6 @@
 -- Stores into a room. `sets l n t` stores t from n on, as far as there is room, and changes nothing else.
-use Rattle.std.specs.Prelude.{◌+◌, ◌-◌, ◌<◌, ◌≤◌, suc, ℕ, List, [], ◌++◌, ◌∷◌, ◌⊎◌, ◌≡◌, refl, ltb, drop, get_or, length, replicate, set, take}
-use Rattle.std.proofs.Common.{inl, inr, append-nil, ◌∙◌, sym, add-one, arith, drop_of_length-le, length-drop, take-append-drop, drop-cons, length-take-le, take_all, ltb-false, ltb-true}
+use Rattle.std.specs.Prelude.{◌+◌, ◌-◌, ◌≤◌, suc, ℕ, List, [], ◌++◌, ◌∷◌, ◌⊎◌, ◌≡◌, refl, ltb, drop, length, replicate, set, take}
+use Rattle.std.proofs.Common.{inl, inr, append-nil, ◌∙◌, sym, arith, drop_of_length-le, length-drop, take-append-drop, length-take-le, take_all, ltb-false, ltb-true}
 use Rattle.std.proofs.Math.Seq.{length-sets, set_out}
 use Rattle.std.proofs.lemmas.List.Edits.{sets}
 use Rattle.std.proofs.lemmas.List.{take-set-le}
