@@ -4,16 +4,19 @@
 pub mod progress;
 
 use outlets::buffered::Buffered;
-use std::fmt::{InlineText, Write};
-use std::io;
+use std::io::Error;
 
 // Where the lines of seeds go: 65,536 bytes may wait.
 pub type Lines<'a> = Buffered<'a, 65_536>;
 
-// A line, which is written whole.
-pub fn put_seed(to: &mut Lines, value: u32) -> io::Result<()> {
-    let mut line = InlineText::<11>::new();
-    // Ten digits and the break fit.
-    let _ = write!(line, "{}\n", value);
-    to.put(line.as_str().as_bytes())
+// The longest line.
+const LINE: usize = 11;
+
+// A line, which is written whole. What waits is written where the longest would not fit.
+pub fn put_seed(to: &mut Lines, value: u32) -> Result<(), Error> {
+    let mut space = [0u8; 20];
+    let n = io::decimal(value as u64, &mut space);
+    to.make_room(LINE)?;
+    to.put(&space[..n])?;
+    to.put(b"\n")
 }

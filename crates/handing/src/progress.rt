@@ -1,4 +1,6 @@
 // How far a long job is, on a terminal.
+use outlets::say;
+use std::fmt::InlineText;
 use std::io::IsTerminal;
 use std::rt::Clock;
 
@@ -20,12 +22,14 @@ fn this_second(rt: &HostRuntime) -> Option<u64> {
 }
 
 // To the start of the line, and nothing behind it.
-const CLEAR_LINE: &str = "\r\x1b[K";
+const CLEAR_LINE: &[u8] = b"\r\x1b[K";
 
 // In the first second that begins nothing is shown: the start may be right before it.
 fn next_second(rt: &HostRuntime, s: Shown, second: Option<u64>, count: u32) -> Shown {
     if s.begun {
-        let _ = eprint!(rt; "{}{} seeds so far", CLEAR_LINE, count);
+        say(rt, CLEAR_LINE);
+        say(rt, InlineText::<10>::of(count).as_str().as_bytes());
+        say(rt, b" seeds so far");
     }
     Shown {
         second,
@@ -61,7 +65,7 @@ impl Progress {
 
     pub fn end(&self, rt: &HostRuntime) {
         if let Some(Shown { line: true, .. }) = self.0 {
-            let _ = eprint!(rt; "{}", CLEAR_LINE);
+            say(rt, CLEAR_LINE);
         }
     }
 }

@@ -1,5 +1,5 @@
 // An outlet behind a buffer: bytes wait there to be written.
-ghost use Rattle.std.specs.Prelude.{◌≡◌, ◌≤◌};
+ghost use Rattle.std.specs.Prelude.{◌+◌, ◌≡◌, ◌≤◌, length};
 
 use crate::Outlet;
 use std::fmt::InlineText;
@@ -33,18 +33,37 @@ impl<'a, const N: usize> Buffered<'a, N> {
         self.outlet.put(&self.bytes[..n])
     }
 
-    // What does not fit behind the bytes that wait is written with them.
-    pub fn put(&mut self, bytes: &[u8]) -> io::Result<()> {
-        if N - self.used < bytes.len() {
-            self.flush()?;
+    // Writes what waits, if fewer bytes than these are free.
+    pub fn make_room(&mut self, bytes: usize) -> io::Result<()>
+        ensures { bytes ≤ N → self.new.used + bytes ≤ N }
+    {
+        if N - self.used < bytes {
+            return self.flush();
         }
-        if N < bytes.len() {
-            return self.outlet.put(bytes);
-        }
+        Ok(())
+    }
+
+    fn add(&mut self, bytes: &[u8])
+        requires { self.old.used + length bytes.now ≤ N }
+        ensures { self.new.used ≡ self.old.used + length bytes.now }
+    {
         let room = &mut self.bytes[..];
         let end = self.used + bytes.len();
         room[self.used..end].copy_from_slice(bytes);
         self.used = end;
+    }
+
+    // What waits is written when it fills the buffer and more comes. So each write is of N bytes, and the pages of a pipe are full.
+    pub fn put(&mut self, bytes: &[u8]) -> io::Result<()> {
+        if N == 0 {
+            return self.outlet.put(bytes);
+        }
+        let (now, rest) = bytes.split_at(bytes.len().min(N - self.used));
+        self.add(now);
+        for part in rest.chunks(N) {
+            self.flush()?;
+            self.add(part);
+        }
         Ok(())
     }
 

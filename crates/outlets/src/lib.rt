@@ -43,7 +43,9 @@ fn without_number(words: &str) -> &str {
 pub fn fail(rt: &HostRuntime, what: &[u8], why: io::Error) {
     let words = InlineText::<128>::of(why);
     say(rt, what);
-    let _ = eprintln!(rt; ": {}", without_number(words.as_str()));
+    say(rt, b": ");
+    say(rt, without_number(words.as_str()).as_bytes());
+    say(rt, b"\n");
 }
 
 // The name of a file as the system is asked for it: text. No other name can be opened.

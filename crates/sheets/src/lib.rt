@@ -40,8 +40,12 @@ fn ended(got: isize, n: usize) -> Sheet
 }
 
 // Says why something just failed with a sheet. One without a name is standard input.
-pub fn fail_sheet(rt: &HostRuntime, name: Option<&str>, why: io::Error) {
-    fail(rt, name.unwrap_or("standard input").as_bytes(), why);
+pub fn fail_sheet(rt: &HostRuntime, name: &[u8], why: io::Error) {
+    if name.is_empty() {
+        fail(rt, b"standard input", why);
+    } else {
+        fail(rt, name, why);
+    }
 }
 
 fn open(rt: &HostRuntime, name: &[u8]) -> io::Result<File> {
@@ -91,7 +95,7 @@ pub fn read_sheet(rt: &HostRuntime, name: Option<&str>, from: &mut Source, room:
                 n += k;
             }
             Err(e) => {
-                fail_sheet(rt, name, e);
+                fail_sheet(rt, name.unwrap_or("").as_bytes(), e);
                 return ended(-1, n);
             }
         }

@@ -2,7 +2,7 @@
 #![tactic(auto)]
 
 pub mod kind;
-mod quoted;
+pub mod quoted;
 
 use outlets::buffered::Buffered;
 

@@ -1,48 +1,64 @@
 // A text between double quotes, with escapes for what can't be shown.
+ghost use Rattle.std.specs.Prelude.{◌≤◌, length};
+
 use crate::Output;
 use showing::show::{char_len, is_shown};
-use std::fmt::{InlineText, Write};
-use std::io;
+use std::io::Error;
 use utf8::look;
 
 // A character that can't be shown, as an escape of double quotes.
-fn escape(c: u32) -> InlineText<10> {
-    let mut text = InlineText::new();
-    // Ten bytes hold the longest.
-    let _ = match c {
-        0..=0xff => write!(text, "\\x{:02x}", c),
-        0x100..=0xffff => write!(text, "\\u{:04x}", c),
-        _ => write!(text, "\\U{:08x}", c),
+fn put_escape(to: &mut Output, c: u32) -> Result<(), Error> {
+    let (sign, digits): (&str, usize) = match c {
+        0..=0xff => ("\\x", 2),
+        0x100..=0xffff => ("\\u", 4),
+        _ => ("\\U", 8),
     };
-    text
+    let mut space = [0u8; 16];
+    let n = io::hex(c as u64, digits, &mut space);
+    to.put(sign.as_bytes())?;
+    to.put(&space[..n])
 }
 
-// The bytes of one character, so that it can be shown between double quotes.
-fn put_sign(to: &mut Output, s: &[u8]) -> io::Result<()> {
-    let c = look(s, 0);
+// A character that is not shown as it is.
+fn put_sign(to: &mut Output, c: u32) -> Result<(), Error> {
     match c {
         9 => to.put(b"\\t"),
         10 => to.put(b"\\n"),
         13 => to.put(b"\\r"),
         34 => to.put(b"\\\""),
         92 => to.put(b"\\\\"),
-        _ => {
-            if is_shown(c) {
-                return to.put(s);
-            }
-            to.put(escape(c).as_str().as_bytes())
-        }
+        _ => put_escape(to, c),
     }
 }
 
-// By hand: a step is a character of one to four bytes.
-pub(crate) fn put_quoted(to: &mut Output, s: &[u8]) -> io::Result<()> {
+// Where the characters from `at` on that are shown as they are end. By hand: a step is a character of one to four bytes.
+fn shown_end(s: &[u8], at: usize) -> usize
+    requires { at ≤ length s.now }
+    ensures { (at ≤ result) × (result ≤ length s.now) }
+{
+    let mut end = at;
+    while end < s.len() {
+        let c = look(s, end);
+        if c == 34 || c == 92 || !is_shown(c) {
+            break;
+        }
+        end += char_len(s, end);
+    }
+    end
+}
+
+// A text with its quotes. Characters that are shown as they are go on together.
+pub fn put_quoted(to: &mut Output, s: &[u8]) -> Result<(), Error> {
     to.put(b"\"")?;
     let mut at = 0;
     while at < s.len() {
-        let n = char_len(s, at);
-        put_sign(to, &s[at..at + n])?;
-        at += n;
+        let end = shown_end(s, at);
+        to.put(&s[at..end])?;
+        at = end;
+        if end < s.len() {
+            put_sign(to, look(s, end))?;
+            at += char_len(s, end);
+        }
     }
     to.put(b"\"")
 }

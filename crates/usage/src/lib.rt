@@ -22,7 +22,9 @@ pub fn give_help(rt: &HostRuntime) -> u8 {
 
 fn say_usage(rt: &HostRuntime) {
     say(rt, b"\nUsage:\n");
-    say(rt, USAGE.as_bytes());
+    for line in USAGE {
+        say(rt, line.as_bytes());
+    }
 }
 
 // What is wrong about a word, as far as 4,096 bytes of it go.
