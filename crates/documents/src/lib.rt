@@ -111,15 +111,19 @@ pub fn fetch_document_indicator(
         return refuse(47, m);
     }
     let e = p.skip_n_non_blank(3);
-    let next = after_marker(text, starts, e)?;
-    let end = e.mark;
-    let token = Token {
-        kind: pick(starts, Kind::DocumentStart, Kind::DocumentEnd),
-        start: m,
-        end: end,
-    };
-    let u = leave_blocks(s, stacks);
-    Ok(go_on(s, u, next, false, false, token))
+    match after_marker(text, starts, e) {
+        Ok(next) => {
+            let end = e.mark;
+            let token = Token {
+                kind: pick(starts, Kind::DocumentStart, Kind::DocumentEnd),
+                start: m,
+                end: end,
+            };
+            let u = leave_blocks(s, stacks);
+            Ok(go_on(s, u, next, false, false, token))
+        }
+        Err(f) => Err(f),
+    }
 }
 
 // The end of the text forces a new line.

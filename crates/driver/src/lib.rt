@@ -159,7 +159,12 @@ fn other_token(
     ensures { StepDone limits text.now stacks.new (token_news limits text.now stacks.old s ended n) base n words.old bytes.old (token_left (state_of text.now stacks.old (n.count + ended) s) bytes.old n.used) words.new bytes.new result }
 {
     let k = ending(n, ended);
-    let r = fetch_other(limits, text, c, s, k, stacks, bytes)?;
+    let r = match fetch_other(limits, text, c, s, k, stacks, bytes) {
+        Ok(r) => r,
+        Err(f) => {
+            return Err(f);
+        }
+    };
     let e = match r {
         Fetched::Goes(e, _) => e,
         Fetched::Ends(e) => e,
@@ -176,12 +181,13 @@ fn other_token(
 fn apart(r: Result<Stepped, Refusal>) -> Result<Stepped, Refusal>
     ensures { result ≡ r }
 {
-    match r? {
-        Stepped::On { state, counts } => Ok(Stepped::On {
+    match r {
+        Ok(Stepped::On { state, counts }) => Ok(Stepped::On {
             state: state.anew(),
             counts,
         }),
-        Stepped::Ends(n) => Ok(Stepped::Ends(n)),
+        Ok(Stepped::Ends(n)) => Ok(Stepped::Ends(n)),
+        Err(f) => Err(f),
     }
 }
 
