@@ -92,7 +92,7 @@ fn after_marker(text: &[u8], starts: bool, p: Place) -> Result<Place, Refusal>
     refuse(49, e.mark)
 }
 
-// `---` or `...`. 47: in flow.
+// `---` or `...`. 47: in flow. Matched, since `?` puts the place together again in memory.
 pub fn fetch_document_indicator(
     limits: Limits,
     text: &[u8],

@@ -142,7 +142,7 @@ fn brief_token(
     }
 }
 
-// One token that is not.
+// One token that is not. Answers of a step are matched here and in `apart`: `?` puts an answer together again in memory, and each token waited for it.
 fn other_token(
     limits: Limits,
     text: &[u8],
