@@ -53,17 +53,28 @@ impl<'a, const N: usize> Buffered<'a, N> {
         self.used = end;
     }
 
-    // What waits is written when it fills the buffer and more comes. So each write is of N bytes, and the pages of a pipe are full.
-    pub fn put(&mut self, bytes: &[u8]) -> io::Result<()> {
+    // Bytes of which some do not fit: what waits is written when it fills the buffer and more comes.
+    fn put_over(&mut self, bytes: &[u8]) -> io::Result<()>
+        requires { N ≤ self.old.used + length bytes.now }
+    {
         if N == 0 {
             return self.outlet.put(bytes);
         }
-        let (now, rest) = bytes.split_at(bytes.len().min(N - self.used));
+        let (now, rest) = bytes.split_at(N - self.used);
         self.add(now);
         for part in rest.chunks(N) {
             self.flush()?;
             self.add(part);
         }
+        Ok(())
+    }
+
+    // Each write but the last is of N bytes, so that the pages of a pipe are full.
+    pub fn put(&mut self, bytes: &[u8]) -> io::Result<()> {
+        if N - self.used < bytes.len() {
+            return self.put_over(bytes);
+        }
+        self.add(bytes);
         Ok(())
     }
 

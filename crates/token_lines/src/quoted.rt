@@ -1,6 +1,4 @@
 // A text between double quotes, with escapes for what can't be shown.
-ghost use Rattle.std.specs.Prelude.{◌≤◌, length};
-
 use crate::Output;
 use showing::show::{char_len, is_shown};
 use std::io::Error;
@@ -31,34 +29,21 @@ fn put_sign(to: &mut Output, c: u32) -> Result<(), Error> {
     }
 }
 
-// Where the characters from `at` on that are shown as they are end. By hand: a step is a character of one to four bytes.
-fn shown_end(s: &[u8], at: usize) -> usize
-    requires { at ≤ length s.now }
-    ensures { (at ≤ result) × (result ≤ length s.now) }
-{
-    let mut end = at;
-    while end < s.len() {
-        let c = look(s, end);
-        if c == 34 || c == 92 || !is_shown(c) {
-            break;
-        }
-        end += char_len(s, end);
-    }
-    end
-}
-
-// A text with its quotes. Characters that are shown as they are go on together.
+// A text with its quotes. Characters that are shown as they are go on together. By hand: a step is a character of one to four bytes.
 pub fn put_quoted(to: &mut Output, s: &[u8]) -> Result<(), Error> {
     to.put(b"\"")?;
+    let mut from = 0;
     let mut at = 0;
     while at < s.len() {
-        let end = shown_end(s, at);
-        to.put(&s[at..end])?;
-        at = end;
-        if end < s.len() {
-            put_sign(to, look(s, end))?;
-            at += char_len(s, end);
+        let c = look(s, at);
+        let next = at + char_len(s, at);
+        if c == 34 || c == 92 || !is_shown(c) {
+            to.put(&s[from..at])?;
+            put_sign(to, c)?;
+            from = next;
         }
+        at = next;
     }
+    to.put(&s[from..])?;
     to.put(b"\"")
 }
