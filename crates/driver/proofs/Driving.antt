@@ -2,7 +2,6 @@
 use Prim.Native.Nat.{◌-◌, ◌<◌, ◌≤◌, suc, ℕ}
 use mathlib.Core.List.{List, [], ◌++◌, append-nil, map}
 use mathlib.Core.Path.{◌∙◌, ◌≡◌, ap, refl}
-use Rattle.std.specs.Prelude.{Ok, Err}
 use native.Mathlib.Omega.{arith}
 use lib.Dec.{ltb}
 use lib.ListN.{length, replicate, take}
@@ -34,7 +33,7 @@ use Rattle.states.specs.State.{state_of}
 use Rattle.sink.specs.EventsStored.{store_events, store_laid}
 use Rattle.sink.specs.Stored.{Stored, stored_then}
 use Rattle.storing.specs.Step.{StepGiven, StepRefused, events_of, way_left}
-use Rattle.driver.specs.declared.Stepped.TheVariants.{On}
+use Rattle.driver.specs.declared.Stepped.TheVariants.{On, Refused}
 use Rattle.stream_laws.specs.declared.Pending.{Pending}
 use Rattle.stream_laws.specs.Driven.{Driven, Test, after_halt, behind_events, counts_after, driven}
 use Rattle.driver.specs.Step.{StepDone}
@@ -47,7 +46,7 @@ unfolding events_of store_laid laid_events
 nothing_stored base l slot used i = rw i
 
 pub refused_done : {limits : Limits} {text e : List ℕ} {d : Read News} {base : ℕ} {n : Counts} (l : List ℕ) {b z b' : List ℕ} {f : Refusal} → length e ≡ stack_words → StepRefused d z b' f
-    → StepDone limits text e d base n l b z l b' (Err f)
+    → StepDone limits text e d base n l b z l b' (Refused f)
 refused_done {base = base} {n = n} l long h = record { answers = h; kept = long; words = nothing_stored base l (n.count - base) n.used h.same }
 
 -- and of the lent bytes those used before stay then
@@ -110,7 +109,7 @@ module _ (limits : Limits) (text : List ℕ) (test : Test) where
     driving_low = omega (arith, g.stored.counts)
 
     -- one step more
-    pub driving_on : {e z l' b' : List ℕ} {u : State} {m : Counts} → StepDone limits text e (step limits x) base n l b z l' b' (Ok (On u m))
+    pub driving_on : {e z l' b' : List ℕ} {u : State} {m : Counts} → StepDone limits text e (step limits x) base n l b z l' b' (On u m)
         → Halting d base n₀ l₀ b₀ w t.flow_level e l' b' u m
     driving_on {e} {l' = l'} {b'} {u} {m} q =
         let a = q.answers in
@@ -134,6 +133,6 @@ module _ (limits : Limits) (text : List ℕ) (test : Test) where
             }
 
     -- what is left of the text falls
-    pub driving_less : {e z l' b' : List ℕ} {u : State} {m : Counts} → StepDone limits text e (step limits x) base n l b z l' b' (Ok (On u m))
+    pub driving_less : {e z l' b' : List ℕ} {u : State} {m : Counts} → StepDone limits text e (step limits x) base n l b z l' b' (On u m)
         → left (view text u.place) < left (view text t.place)
     driving_less q = (all_got (step_news [] limits x) q.answers.same).takes

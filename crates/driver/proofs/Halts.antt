@@ -2,12 +2,11 @@
 use Prim.Native.Nat.{◌+◌, ◌-◌, ◌<◌, ◌≤◌, suc, zero, ℕ}
 use mathlib.Core.Bool.{Bool, false, true}
 use mathlib.Core.List.{List}
-use mathlib.Core.Path.{◌∙◌, ◌≡◌, ap, refl, sym}
+use mathlib.Core.Path.{◌≡◌, ap, refl, sym}
 use native.Mathlib.Nat.{not-suc-le-zero}
 use native.Mathlib.Omega.{arith}
 use lib.Dec.{eqb, ltb}
-use lib.ListN.{set}
-use borrow.Author.Tests.{eqb-false, eqb-true, le-ltb, lt-ltb, ltb-false, ltb-true, ne_eqb}
+use borrow.Author.Tests.{eqb-false, eqb-true, ltb-false, ltb-true, ne_eqb}
 use Rattle.yaml_text.specs.declared.Mark.{Mark}
 use Rattle.yaml_text.specs.Mark.{origin}
 use Rattle.yaml_text.specs.Pick.{pick}
@@ -19,10 +18,8 @@ use Rattle.yaml_stream.specs.Levels.{level_key}
 use Rattle.yaml_stream.specs.Lowest.{names}
 use Rattle.stacks.specs.Frame.{frame_keys, key_of, keys_length}
 use Rattle.events.specs.declared.Counts.{Counts}
-use Rattle.states.specs.declared.State.{State}
 use Rattle.stream_laws.specs.declared.Pending.{Pending}
 use Rattle.stream_laws.specs.Driven.{Halt, crowded, go_on, if_enough, one_by_one, pause, refuse, slots_ahead, test_of, then_pending}
-use Rattle.driver.specs.Held.{level_at, put_counts, put_pending, put_state, put_until}
 
 pub key_open : (e : List ℕ) (l d : ℕ) → l < d → level_key l (frame_keys e d) ≡ key_of e l
 unfolding frame_keys level_key

@@ -20,7 +20,7 @@ use Rattle.states.specs.State.{state_of}
 use Rattle.sink.specs.Stored.{CountsWithin, Stored, stored_then}
 use Rattle.storing.specs.Step.{events_of, step_left}
 use Rattle.driver.specs.declared.Outcome.TheVariants.{Ready, Scanned}
-use Rattle.driver.specs.declared.Stepped.TheVariants.{Ends}
+use Rattle.driver.specs.declared.Stepped.TheVariants.{Ends, Refused}
 use Rattle.stream_laws.specs.declared.Pending.{Pending}
 use Rattle.stream_laws.specs.Driven.{Driven, Test, behind_events, driven, go_on, pause, refuse, stops, test_of}
 use Rattle.driver.specs.Drives.{Drives, EndsAs, PausesAs, StopsAs, base_held, drives}
@@ -83,7 +83,7 @@ module _ {limits : Limits} {text : List ℕ} {test : Test} {d : Driven} {base : 
     abbrev x : definition.State
     x = state_of text stacks n.count t
 
-    pub driving_ends : {e z l' b' : List ℕ} {m : Counts} → StepDone limits text e (step limits x) base n l b z l' b' (Ok (Ends m)) → EndsAs d base n₀ m l₀ b₀ l' b'
+    pub driving_ends : {e z l' b' : List ℕ} {m : Counts} → StepDone limits text e (step limits x) base n l b z l' b' (Ends m) → EndsAs d base n₀ m l₀ b₀ l' b'
     unfolding driven
     driving_ends {l' = l'} {b' = b'} {m} q =
         let a = q.answers in
@@ -93,7 +93,7 @@ module _ {limits : Limits} {text : List ℕ} {test : Test} {d : Driven} {base : 
         by_events es same stored few = record { said = g.said ++ es; same = g.whole ∙ rw same; stored = stored_then low g.stored stored; few = few }
 
     pub driving_stops : {e l' b' h₀ h h' : List ℕ} {f : Refusal} → LengthsKept h₀ l₀ b₀ h l' b' → h' ≡ put_until h base w
-        → StepDone limits text e (step limits x) base n l b (step_left x b n.used) l' b' (Err f) → StopsAs d base n₀ f h₀ l₀ b₀ h' l' b'
+        → StepDone limits text e (step limits x) base n l b (step_left x b n.used) l' b' (Refused f) → StopsAs d base n₀ f h₀ l₀ b₀ h' l' b'
     unfolding driven
     driving_stops {l' = l'} {f = f} k held q =
         let a = q.answers in

@@ -22,7 +22,7 @@ use Rattle.states.specs.State.{state_of}
 use Rattle.sink.specs.Stored.{CountsBehind, stored_none}
 use Rattle.storing.specs.Step.{StepGiven, step_left}
 use Rattle.driver.specs.declared.Outcome.TheVariants.{Ready, Scanned}
-use Rattle.driver.specs.declared.Stepped.TheVariants.{Ends, On}
+use Rattle.driver.specs.declared.Stepped.TheVariants.{Ends, On, Refused}
 use Rattle.stream_laws.specs.declared.Pending.{Pending}
 use Rattle.stream_laws.specs.Driven.{Halt, go_on, noted, pause, refuse, test_of}
 use Rattle.driver.specs.Drives.{Drives, drives}
@@ -96,7 +96,7 @@ module _ {limits : Limits} {one : Bool} {text h₀ l₀ b₀ : List ℕ} {base :
   looping_gives = (i.driving.given, driving_low limits text (test_at one (length b₀) base) i.low i.driving)
 
   -- what is left of the text falls; v: the state behind the step, put together anew
-  pub looping_less : {e z l' b' : List ℕ} {u v : State} {m : Counts} → v ≡ u → StepDone limits text e (step limits (state_of text (stacks_held h) n.count t)) base n l b z l' b' (Ok (On u m))
+  pub looping_less : {e z l' b' : List ℕ} {u v : State} {m : Counts} → v ≡ u → StepDone limits text e (step limits (state_of text (stacks_held h) n.count t)) base n l b z l' b' (On u m)
       → left (view text v.place) < left (view text t.place)
   looping_less e q = rw e (driving_less limits text (test_at one (length b₀) base) i.low i.driving q)
 
@@ -119,7 +119,7 @@ module _ {limits : Limits} {one : Bool} {text h₀ l₀ b₀ : List ℕ} {base :
       }
 
   module _ {l' b' : List ℕ} (p : length l' ≡ length l) (q : length b' ≡ length b) where
-    pub looping_asks : {z : List ℕ} {u v : State} {m : Counts} → v ≡ u → StepDone limits text e (step limits (state_of text (stacks_held h) n.count t)) base n l b z l' b' (Ok (On u m))
+    pub looping_asks : {z : List ℕ} {u v : State} {m : Counts} → v ≡ u → StepDone limits text e (step limits (state_of text (stacks_held h) n.count t)) base n l b z l' b' (On u m)
         → Asking limits one text h₀ l₀ b₀ base s₀ n₀ w₀ t.flow_level after l' b' v m w
     looping_asks anew d =
         let r = i.driving.given.ready in
@@ -134,12 +134,12 @@ module _ {limits : Limits} {one : Bool} {text h₀ l₀ b₀ : List ℕ} {base :
           halting = rw (take_at e (drop stack_words h) stack_words d.kept) (driving_on limits text (test_at one (length b₀) base) i.low i.driving d);
         })
 
-    pub looping_ends : {z : List ℕ} {m : Counts} → StepDone limits text e (step limits (state_of text (stacks_held h) n.count t)) base n l b z l' b' (Ok (Ends m))
+    pub looping_ends : {z : List ℕ} {m : Counts} → StepDone limits text e (step limits (state_of text (stacks_held h) n.count t)) base n l b z l' b' (Ends m)
         → Drives limits one text h₀ l₀ b₀ after l' b' (Ok (Scanned m))
     looping_ends d = drives_scanned one h₀ l₀ b₀ after l' b' i.loaded (kept_on d.kept p q) (driving_ends i.low i.driving d)
 
     pub looping_stops : {h' : List ℕ} {f : Refusal} → h' ≡ put_until after base w
-        → StepDone limits text e (step limits (state_of text (stacks_held h) n.count t)) base n l b (step_left (state_of text (stacks_held h) n.count t) b n.used) l' b' (Err f)
+        → StepDone limits text e (step limits (state_of text (stacks_held h) n.count t)) base n l b (step_left (state_of text (stacks_held h) n.count t) b n.used) l' b' (Refused f)
         → Drives limits one text h₀ l₀ b₀ h' l' b' (Err f)
     looping_stops {h'} held d = drives_stopped one h₀ l₀ b₀ h' l' b' i.loaded (driving_stops i.low i.driving (kept_on d.kept p q) held d)
 

@@ -49,7 +49,7 @@ module _ {limits : Limits} {text a : List ℕ} {s : State} {n : Counts} (h : Ste
 
   module _ (c : Choice) {e b b' : List ℕ} where
     pub taken_refused : {base : ℕ} {f : Refusal} (l : List ℕ) → length e ≡ stack_words → AsDefined text s (λ t. choice t) c → Steps limits text a e b b' k s c (Err f)
-        → StepDone limits text e (token_news limits text a s ended n) base n l b (left_here b) l b' (Err f)
+        → StepDone limits text e (token_news limits text a s ended n) base n l b (left_here b) l b' (stepped.Refused f)
     taken_refused l long y g =
         let r = token_refused h ended few (rw behind at g) in
         refused_done l long (record { same = r.same; bytes = r.bytes ∙ ap (λ (d : Choice). choice_bytes d b n.used) (y a (n.count + ended)) })
@@ -59,12 +59,12 @@ module _ {limits : Limits} {text a : List ℕ} {s : State} {n : Counts} (h : Ste
 
     module _ {base : ℕ} {r : Result Fetched Refusal} {v : Event} {m : Counts} (l : List ℕ) {l' : List ℕ} (g : Steps limits text a e b b' k s c r)
         (long : length e ≡ stack_words) (stored : l' ≡ put_news l (n.count - base) s.place.mark ended (shifted base v)) (told : m ≡ counted_of k v) where
-      pub taken_goes : {t : State} → r ≡ Ok (Goes v t) → length a ≡ stack_words → StepDone limits text e (token_news limits text a s ended n) base n l b (left_here b) l' b' (Ok (stepped.On t m))
+      pub taken_goes : {t : State} → r ≡ Ok (Goes v t) → length a ≡ stack_words → StepDone limits text e (token_news limits text a s ended n) base n l b (left_here b) l' b' (stepped.On t m)
       taken_goes q was =
           let f = rw behind at g in
           record { answers = token_goes h ended few f q (long ∙ sym was) (rw behind at told); kept = long; words = token_words h ended few base l f (fetched_as q refl going) stored }
 
-      pub taken_ends : r ≡ Ok (Ends v) → StepDone limits text e (token_news limits text a s ended n) base n l b (left_here b) l' b' (Ok (stepped.Ends m))
+      pub taken_ends : r ≡ Ok (Ends v) → StepDone limits text e (token_news limits text a s ended n) base n l b (left_here b) l' b' (stepped.Ends m)
       taken_ends q =
           let f = rw behind at g in
           record { answers = token_ends h ended few f q (rw behind at told); kept = long; words = token_words h ended few base l f (fetched_as q refl at_end) stored }

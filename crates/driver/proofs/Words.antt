@@ -1,25 +1,23 @@
 -- Words that are held: what is read out of them is fit for a step, and what was stored is read back, since each word is within its bound.
-use Prim.Native.Nat.{◌%◌, ◌*◌, ◌+◌, ◌-◌, ◌/◌, ◌<◌, ◌^◌, ◌≤◌, ℕ}
+use Prim.Native.Nat.{◌%◌, ◌*◌, ◌+◌, ◌-◌, ◌/◌, ◌<◌, ◌≤◌, ℕ}
 use mathlib.Core.Bool.{Bool}
 use mathlib.Core.List.{List}
 use mathlib.Core.Path.{◌∙◌, ◌≡◌}
 use native.Mathlib.Omega.{arith}
 use lib.Dec.{eqb}
-use lib.ListN.{get_or, length, set}
+use lib.ListN.{get_or, length}
 use lib.Seq.{length-sets, length-take-le}
 use Rattle.yaml_scan.specs.declared.Limits.{Limits}
-use Rattle.chars.specs.declared.mark.Place.{Place}
 use Rattle.rooms.specs.Room.{take_sets}
 use Rattle.stacks.specs.Bit.{bit, bit_low}
 use Rattle.stacks.specs.Indent.{most_at}
-use Rattle.stacks.specs.Most.{at_most, at_most_fits, at_most_stays}
+use Rattle.stacks.specs.Most.{at_most_fits, at_most_stays}
 use Rattle.stacks.specs.Stack.{stack_words}
 use Rattle.stacks.proofs.Frames.{bit_is, digit, get_d_sets, getD_sets_other}
 use Rattle.events.specs.declared.Counts.{Counts}
 use Rattle.states.specs.declared.State.{State}
 use Rattle.storing.specs.Step.{StepGiven}
-use Rattle.stream_laws.specs.declared.Pending.{Pending}
-use Rattle.driver.specs.Held.{Modest, at_held, count_words, counts_at, counts_held, depth_held, held_words, index_held, level_at, mark_at, number_at, pending_held, place_held, put_counts, put_state, stacks_held, state_at, state_held, state_words, word}
+use Rattle.driver.specs.Held.{Modest, at_held, count_words, counts_at, counts_held, depth_held, held_words, index_held, mark_at, number_at, put_counts, put_state, stacks_held, state_at, state_held, state_words, word}
 
 -- whatever the words are
 pub held_given : {limits : Limits} {text : List ℕ} (h : List ℕ) → Modest limits → length text ≤ 1_048_576 → length h ≡ held_words

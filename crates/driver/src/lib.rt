@@ -48,11 +48,13 @@ pub enum Outcome {
     Ready,
 }
 
-// Behind a step: the state there; or the end of the text.
+// Behind a step: the state there; the end of the text; or a refusal. No Result: its answers would be put together in memory on the way to the loop, and each
+// token waited for the one before.
 #[derive(Clone, Copy)]
 enum Stepped {
     On { state: State, counts: Counts },
     Ends(Counts),
+    Refused(Refusal),
 }
 
 // Behind a step: on, or enough can be given; and what is pending then.
@@ -114,19 +116,24 @@ fn brief_token(
     stacks: &mut [u32; STACK_WORDS],
     words: &mut [u32],
     bytes: &mut [u8],
-) -> Result<Stepped, Refusal>
+) -> Stepped
     requires { StepGiven limits text.now stacks.old s n × (base ≤ n.count) × (ended ≤ 255) × AsDefined text.now s (λ t. choice t) c × (is_brief c ≡ true) }
     ensures { StepDone limits text.now stacks.new (token_news limits text.now stacks.old s ended n) base n words.old bytes.old (token_left (state_of text.now stacks.old (n.count + ended) s) bytes.old n.used) words.new bytes.new result }
 {
     let k = ending(n, ended);
-    let r = fetch_brief(limits, text, c, s, k, stacks, bytes)?;
+    let r = match fetch_brief(limits, text, c, s, k, stacks, bytes) {
+        Ok(r) => r,
+        Err(f) => {
+            return Stepped::Refused(f);
+        }
+    };
     match r {
         Brief::Goes { state, pair, token } => {
             put_brief::<PairEnd>(words, n.count - base, s.place.mark, ended, pair, token);
-            Ok(Stepped::On {
+            Stepped::On {
                 state: state.anew(),
                 counts: k.counting(brief_event(pair, Opening::FlowMappingEnd, token)),
-            })
+            }
         }
         Brief::Enters {
             state,
@@ -134,15 +141,15 @@ fn brief_token(
             token,
         } => {
             put_brief::<BlockStart>(words, n.count - base, s.place.mark, ended, starts, token);
-            Ok(Stepped::On {
+            Stepped::On {
                 state: state.anew(),
                 counts: k.counting(brief_event(starts, Opening::BlockSequenceStart, token)),
-            })
+            }
         }
     }
 }
 
-// One token that is not. Answers of a step are matched here and in `apart`: `?` puts an answer together again in memory, and each token waited for it.
+// One token that is not.
 fn other_token(
     limits: Limits,
     text: &[u8],
@@ -154,7 +161,7 @@ fn other_token(
     stacks: &mut [u32; STACK_WORDS],
     words: &mut [u32],
     bytes: &mut [u8],
-) -> Result<Stepped, Refusal>
+) -> Stepped
     requires { StepGiven limits text.now stacks.old s n × (base ≤ n.count) × (ended ≤ 255) × AsDefined text.now s (λ t. choice t) c × (is_brief c ≡ false) }
     ensures { StepDone limits text.now stacks.new (token_news limits text.now stacks.old s ended n) base n words.old bytes.old (token_left (state_of text.now stacks.old (n.count + ended) s) bytes.old n.used) words.new bytes.new result }
 {
@@ -162,7 +169,7 @@ fn other_token(
     let r = match fetch_other(limits, text, c, s, k, stacks, bytes) {
         Ok(r) => r,
         Err(f) => {
-            return Err(f);
+            return Stepped::Refused(f);
         }
     };
     let e = match r {
@@ -172,22 +179,22 @@ fn other_token(
     put_news(words, base, n.count - base, s.place.mark, ended, e);
     let counts = k.counting(e);
     match r {
-        Fetched::Goes(_, state) => Ok(Stepped::On { state, counts }),
-        Fetched::Ends(_) => Ok(Stepped::Ends(counts)),
+        Fetched::Goes(_, state) => Stepped::On { state, counts },
+        Fetched::Ends(_) => Stepped::Ends(counts),
     }
 }
 
 // The same answer, put together anew: else the call writes it to the caller's own, and brief tokens go through memory too.
-fn apart(r: Result<Stepped, Refusal>) -> Result<Stepped, Refusal>
+fn apart(r: Stepped) -> Stepped
     ensures { result ≡ r }
 {
     match r {
-        Ok(Stepped::On { state, counts }) => Ok(Stepped::On {
+        Stepped::On { state, counts } => Stepped::On {
             state: state.anew(),
             counts,
-        }),
-        Ok(Stepped::Ends(n)) => Ok(Stepped::Ends(n)),
-        Err(f) => Err(f),
+        },
+        Stepped::Ends(n) => Stepped::Ends(n),
+        Stepped::Refused(f) => Stepped::Refused(f),
     }
 }
 
@@ -202,7 +209,7 @@ fn token(
     stacks: &mut [u32; STACK_WORDS],
     words: &mut [u32],
     bytes: &mut [u8],
-) -> Result<Stepped, Refusal>
+) -> Stepped
     requires { StepGiven limits text.now stacks.old s n × (base ≤ n.count) × (ended ≤ 255) }
     ensures { StepDone limits text.now stacks.new (token_news limits text.now stacks.old s ended n) base n words.old bytes.old (token_left (state_of text.now stacks.old (n.count + ended) s) bytes.old n.used) words.new bytes.new result }
 {
@@ -234,14 +241,16 @@ fn one_step(
     stacks: &mut [u32; STACK_WORDS],
     words: &mut [u32],
     bytes: &mut [u8],
-) -> Result<Stepped, Refusal>
+) -> Stepped
     requires { StepGiven limits text.now stacks.old s n × (base ≤ n.count) }
     ensures { StepDone limits text.now stacks.new (step limits (state_of text.now stacks.old n.count s)) base n words.old bytes.old (step_left (state_of text.now stacks.old n.count s) bytes.old n.used) words.new bytes.new result }
 {
-    let a = to_next_token(limits, text, s, stacks)?;
-    token(
-        limits, text, a.state, a.ended, n, base, stacks, words, bytes,
-    )
+    match to_next_token(limits, text, s, stacks) {
+        Ok(a) => token(
+            limits, text, a.state, a.ended, n, base, stacks, words, bytes,
+        ),
+        Err(f) => Stepped::Refused(f),
+    }
 }
 
 // Whether the candidate of a level is the token of that number; a level above the flow level has none.
@@ -398,14 +407,14 @@ pub fn all_steps(
         let stacks = held.first_chunk_mut::<STACK_WORDS>().unwrap();
         let r = one_step(limits, text, t, k, base, stacks, words, bytes);
         match r {
-            Ok(Stepped::On { state, counts }) => {
+            Stepped::On { state, counts } => {
                 t = state.anew();
                 k = counts;
             }
-            Ok(Stepped::Ends(m)) => {
+            Stepped::Ends(m) => {
                 return Ok(Outcome::Scanned(m));
             }
-            Err(f) => {
+            Stepped::Refused(f) => {
                 hold_until(held, base, w);
                 return Err(f);
             }

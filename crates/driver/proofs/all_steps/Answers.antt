@@ -27,12 +27,11 @@ asked : (c : After-anew-t)
     → let a = c.args in
     let r = c.one_step-r in
     Asking a.limits a.single a.text.now a.held.now a.words.now a.bytes.now c.min-base.result c.load_state-t.result c.load_counts-k.result c.load_pending-w.result
-    c.loop-state.t.flow_level (r.new.stacks ++ drop stack_words c.loop-state.held) r.new.words r.new.bytes c.anew-t.result c.in-Ok-On.counts c.loop-state.w
+    c.loop-state.t.flow_level (r.new.stacks ++ drop stack_words c.loop-state.held) r.new.words r.new.bytes c.anew-t.result c.in-On.counts c.loop-state.w
 asked c =
     let r = c.one_step-r in
     let f = rw c.unwrap-stacks.ensures at c.first_chunk_mut.ensures.cases in
-    let k = rw c.in-Ok-On.is at c.in-Ok-On.field-0-is in
-    let d = rw (f.same, c.in-Ok-On.is, k) at r.ensures in
+    let d = rw (f.same, c.in-On.is) at r.ensures in
     looping_asks c.loop-state.invariant r.new.stacks r.auto.words r.auto.bytes c.anew-t.ensures d
 
 pub loop-state-init : goal.loop-state-init
@@ -41,24 +40,24 @@ loop-state-init c =
     looping_start a.text.now c.requires.0 c.requires.1 a.single a.held.now a.words.now a.bytes.now c.told-held c.load_state-t.ensures
     c.load_counts-k.ensures c.min-base.ensures c.load_pending-w.ensures
 
-pub returns-in-Err : goal.returns-in-Err
-returns-in-Err c =
+pub returns-in-Refused : goal.returns-in-Refused
+returns-in-Refused c =
     let r = c.one_step-r in
-    looping_stops c.loop-state.invariant r.new.stacks r.auto.words r.auto.bytes c.hold_until.ensures (rw c.in-Err.is at (made (goal.at.returns-in-Err c).After-one_step-r))
+    looping_stops c.loop-state.invariant r.new.stacks r.auto.words r.auto.bytes c.hold_until.ensures (rw c.in-Refused.is at (made (goal.at.returns-in-Refused c).After-one_step-r))
 
-pub returns-in-Ok-Ends : goal.returns-in-Ok-Ends
-returns-in-Ok-Ends c =
+pub returns-in-Ends : goal.returns-in-Ends
+returns-in-Ends c =
     let r = c.one_step-r in
     looping_ends c.loop-state.invariant r.new.stacks r.auto.words r.auto.bytes
-    (rw (c.in-Ok-Ends.is, rw c.in-Ok-Ends.is at c.in-Ok-Ends.field-0-is) at (made (goal.at.returns-in-Ok-Ends c).After-one_step-r))
+    (rw c.in-Ends.is at (made (goal.at.returns-in-Ends c).After-one_step-r))
 
 pub behind_step-b-requires : goal.behind_step-b-requires
 behind_step-b-requires c = asking_asks (asked (goal.at.behind_step-b-requires c).After-anew-t)
 
-pub returns-in-Err-b : goal.returns-in-Err-b
-returns-in-Err-b c =
+pub returns-in-Err : goal.returns-in-Err
+returns-in-Err c =
     let f = rw c.unwrap-stacks-in-loop-state.ensures at c.first_chunk.ensures.cases in
-    asking_stops (asked (goal.at.returns-in-Err-b c).After-anew-t) c.hold_until-in-Err-b.ensures (rw (f.same, c.in-Err-b.is) at c.behind_step-b.ensures)
+    asking_stops (asked (goal.at.returns-in-Err c).After-anew-t) c.hold_until-in-Err.ensures (rw (f.same, c.in-Err.is) at c.behind_step-b.ensures)
 
 pub hold-requires : goal.hold-requires
 hold-requires c =
@@ -72,9 +71,9 @@ returns-in-Ok-Ready c =
 
 pub loop-state-smaller : goal.loop-state-smaller
 loop-state-smaller c =
-    looping_less c.loop-state.invariant c.anew-t.ensures (rw (c.in-Ok-On.is, rw c.in-Ok-On.is at c.in-Ok-On.field-0-is) at (made (goal.at.loop-state-smaller c).After-one_step-r))
+    looping_less c.loop-state.invariant c.anew-t.ensures (rw c.in-On.is at (made (goal.at.loop-state-smaller c).After-one_step-r))
 
 pub loop-state-preserved : goal.loop-state-preserved
 loop-state-preserved c =
     let f = rw c.unwrap-stacks-in-loop-state.ensures at c.first_chunk.ensures.cases in
-    asking_on (asked (goal.at.loop-state-preserved c).After-anew-t) (rw (f.same, c.in-Ok-On-b.is, rw c.in-Ok-On-b.is at c.in-Ok-On-b.field-0-is) at c.behind_step-b.ensures)
+    asking_on (asked (goal.at.loop-state-preserved c).After-anew-t) (rw (f.same, c.in-Ok-On.is, rw c.in-Ok-On.is at c.in-Ok-On.field-0-is) at c.behind_step-b.ensures)
