@@ -43,17 +43,21 @@ impl<'a, const N: usize> Buffered<'a, N> {
         Ok(())
     }
 
+    // Byte by byte: most pieces are short, and a call of memmove for each costs more than they do.
+    #[inline(always)]
     fn add(&mut self, bytes: &[u8])
         requires { self.old.used + length bytes.now ≤ N }
         ensures { self.new.used ≡ self.old.used + length bytes.now }
     {
-        let room = &mut self.bytes[..];
-        let end = self.used + bytes.len();
-        room[self.used..end].copy_from_slice(bytes);
-        self.used = end;
+        let at = self.used;
+        for i in 0..bytes.len() {
+            self.bytes[at + i] = bytes[i];
+        }
+        self.used = at + bytes.len();
     }
 
     // Bytes of which some do not fit: what waits is written when it fills the buffer and more comes.
+    #[inline(never)]
     fn put_over(&mut self, bytes: &[u8]) -> io::Result<()>
         requires { N ≤ self.old.used + length bytes.now }
     {
@@ -69,7 +73,8 @@ impl<'a, const N: usize> Buffered<'a, N> {
         Ok(())
     }
 
-    // Each write but the last is of N bytes, so that the pages of a pipe are full.
+    // Each write but the last is of N bytes, so that the pages of a pipe are full. Inline, so that a short piece is stored in its caller.
+    #[inline(always)]
     pub fn put(&mut self, bytes: &[u8]) -> io::Result<()> {
         if N - self.used < bytes.len() {
             return self.put_over(bytes);

@@ -38,7 +38,9 @@ pub fn put_quoted(to: &mut Output, s: &[u8]) -> Result<(), Error> {
         let c = look(s, at);
         let next = at + char_len(s, at);
         if c == 34 || c == 92 || !is_shown(c) {
-            to.put(&s[from..at])?;
+            if from < at {
+                to.put(&s[from..at])?;
+            }
             put_sign(to, c)?;
             from = next;
         }
