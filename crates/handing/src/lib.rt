@@ -15,8 +15,9 @@ const LINE: usize = 11;
 // A line, which is written whole. What waits is written where the longest would not fit.
 pub fn put_seed(to: &mut Lines, value: u32) -> Result<(), Error> {
     let mut space = [0u8; 20];
-    let n = io::decimal(value as u64, &mut space);
+    // It has at most ten digits.
+    let n = io::decimal(value as u64, &mut space).min(LINE - 1);
+    space[n] = b'\n';
     to.make_room(LINE)?;
-    to.put(&space[..n])?;
-    to.put(b"\n")
+    to.put(&space[..n + 1])
 }

@@ -4,17 +4,23 @@ use showing::show::{char_len, is_shown};
 use std::io::Error;
 use utf8::look;
 
-// A character that can't be shown, as an escape of double quotes.
+// A character that can't be shown, as an escape of double quotes. Each is one piece of a length that is known here, which is stored at once.
 fn put_escape(to: &mut Output, c: u32) -> Result<(), Error> {
-    let (sign, digits): (&str, usize) = match c {
-        0..=0xff => ("\\x", 2),
-        0x100..=0xffff => ("\\u", 4),
-        _ => ("\\U", 8),
-    };
-    let mut space = [0u8; 16];
-    let n = io::hex(c as u64, digits, &mut space);
-    to.put(sign.as_bytes())?;
-    to.put(&space[..n])
+    let mut d = [0u8; 16];
+    match c {
+        0..=0xff => {
+            io::hex(c as u64, 2, &mut d);
+            to.put(&[b'\\', b'x', d[0], d[1]])
+        }
+        0x100..=0xffff => {
+            io::hex(c as u64, 4, &mut d);
+            to.put(&[b'\\', b'u', d[0], d[1], d[2], d[3]])
+        }
+        _ => {
+            io::hex(c as u64, 8, &mut d);
+            to.put(&[b'\\', b'U', d[0], d[1], d[2], d[3], d[4], d[5], d[6], d[7]])
+        }
+    }
 }
 
 // A character that is not shown as it is.
