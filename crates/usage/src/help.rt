@@ -1,4 +1,4 @@
-// What `help` says. Each line is one write, whatever became of the line before.
+// What `help` says. Each piece is one write, whatever became of the one before.
 use outlets::Outlet;
 use std::io;
 
