@@ -6,7 +6,7 @@ use records::RECORD_WORDS;
 use scanner::scan;
 use std::io;
 use tokenglade::numbers_of;
-use vectors::{enough_words, line_end, read_hex, read_input};
+use vectors::{enough_words, read_hex, read_input};
 
 // How often a room was lent, how often the answer was the one expected, and how many words and bytes were not zero then.
 #[derive(Clone, Copy)]
@@ -145,8 +145,9 @@ fn in_small_rooms(s: &[u8], words: &mut [u32], bytes: &mut [u8], room: Small) ->
         words: 0,
         bytes: 0,
     };
+    // A line feed is no digit, so that reading ends at it.
     for line in s.split_inclusive(|b| *b == b'\n') {
-        n = line_in_small_room(&line[..line_end(line, 0)], words, bytes, room, n);
+        n = line_in_small_room(line, words, bytes, room, n);
     }
     n
 }

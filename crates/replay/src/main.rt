@@ -9,7 +9,7 @@ ghost use Rattle.replay.specs.Replay.{line_again, longest};
 use records::RECORD_WORDS;
 use scanner::scan;
 use std::io;
-use vectors::{enough_words, line_end, put_accepted, put_head, put_refused, read_hex, read_input};
+use vectors::{enough_words, put_accepted, put_head, put_refused, read_hex, read_input};
 
 // The line of a text; how long it is.
 fn put_vector(out: &mut [u8], text: &[u8], words: &mut [u32], bytes: &mut [u8]) -> usize
@@ -58,8 +58,9 @@ fn replay_all(
 ) -> io::Result<()>
     requires { longest 40_960 (length words.old) (length bytes.old) ≤ length out.old }
 {
+    // A line feed is no digit, so that reading ends at it.
     for line in s.split_inclusive(|b| *b == b'\n') {
-        replay_line(rt, &line[..line_end(line, 0)], words, bytes, out)?;
+        replay_line(rt, line, words, bytes, out)?;
     }
     Ok(())
 }

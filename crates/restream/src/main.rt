@@ -90,7 +90,9 @@ fn restream_all(rt: &HostRuntime, s: &[u8], words: &mut [u32], bytes: &mut [u8])
     requires { length bytes.old ≤ 16_128 }
 {
     for line in s.split_inclusive(|b| *b == b'\n') {
-        restream_line(rt, &line[..line_end(line, 0)], words, bytes)?;
+        // Only its last byte can be a line feed.
+        let end = line_end(line, line.len().saturating_sub(1));
+        restream_line(rt, &line[..end], words, bytes)?;
     }
     Ok(())
 }
